@@ -1,138 +1,27 @@
 #!/usr/bin/env python3
-"""Compares `PROGRAM check` with second-check.py on small random archives, on certificates that `PROGRAM strong` writes and on their
-mutations.  compare-checkers.py PROGRAM [SECONDS [SEED [SHARE_OF_BAD_PACKAGES]]]"""
-import importlib.util
-import itertools
-import os
-import random
-import subprocess
+"""Compares `PROGRAM check` with second-check.py on small random archives: on certificates of all kinds and both modes that the program writes,
+on others that are written here, and on edits of both in bytes, words and lines. What both accept is held against the definitions, by
+enumeration: each claim is true. What they refuse, they refuse at one line for one cause.
+
+Usage: compare-checkers.py PROGRAM [CERTIFICATES [SEED [SECONDS]]]    it ends after so many certificates or seconds
+It prints how many agreed, by kind and answer; at the first that does not it prints the files, as short as they can be made, and ends with 1.
+LineTooLong and passed limits don't come: a line or a text of their size is too long to be tried so often.
+"""
+import collections
 import sys
-import tempfile
 import time
 
-HERE = os.path.dirname(os.path.abspath(__file__))
-spec = importlib.util.spec_from_file_location("second_check", os.environ.get("CHECKER", os.path.join(HERE, "second-check.py")))
-sc = importlib.util.module_from_spec(spec)
-spec.loader.exec_module(sc)
-WORK = tempfile.mkdtemp()
-P, C = os.path.join(WORK, "p"), os.path.join(WORK, "c")
-VERSIONS = ["1", "1", "2", "2", "3", "1.0", "1~", "1-0", "0:1", "1-1", "1+b1", "1:0", "01", "2~rc1", "1.a", "10", "9", "1.0-1+b2"]
-
-
-# ---- archives ----
-
-def atom(rng, names, bounds=True):
-    text = rng.choice(names)
-    if rng.random() < 0.08:
-        text += ":" + rng.choice(["any", "native", "amd64", "all", "i386"])
-    if bounds and rng.random() < 0.4:
-        text += " (%s %s)" % (rng.choice(["<<", "<=", "=", ">=", ">>", "<", ">"]), rng.choice(VERSIONS))
-    return text
-
-
-def entry(rng, names):
-    text = rng.choice(names)
-    if rng.random() < 0.06:
-        text += ":" + rng.choice(["any", "amd64", "i386"])
-    if rng.random() < 0.5:
-        text += " (= %s)" % rng.choice(VERSIONS)
-    return text
-
-
-def archive(rng):
-    names = ["a", "b", "c", "d", "e", "f", "g"][:rng.randint(2, 7)]
-    asked = names + ["v", "w"][:rng.randint(0, 2)] + (["zz"] if rng.random() < 0.2 else [])
-    stanzas, count, used = [], rng.randint(3, 7), set()
-    while len(stanzas) < count:
-        name, version = rng.choice(names), rng.choice(VERSIONS)
-        if rng.random() < 0.85 and (name in used or rng.random() < 0.3) and len(used) < len(names):
-            name = rng.choice([n for n in names if n not in used])
-        used.add(name)
-        lines = ["Package: " + name, "Version: " + version,
-                 "Architecture: " + rng.choice(["amd64", "amd64", "amd64", "all"])]
-        if rng.random() < 0.2:
-            lines.pop()
-        if rng.random() < 0.1:
-            lines.append("Source: " + rng.choice(["src", "src (1)", name, name + " (" + version + ")"]))
-        style = rng.random()
-        for field, chance in (("Pre-Depends", 0.15), ("Depends", 0.75)):
-            if rng.random() < chance:
-                items = []
-                for _ in range(rng.choice([1, 1, 1, 2, 2, 3])):
-                    items.append(rng.choice([" | ", "|"]).join(
-                        atom(rng, asked, style > 0.3) for _ in range(rng.choice([1, 1, 2, 2, 3]))))
-                lines.append(field + ": " + rng.choice([", ", ",", " ,\n "]).join(items))
-        for field, chance in (("Conflicts", 0.3), ("Breaks", 0.15)):
-            if rng.random() < chance:
-                lines.append(field + ": " + ", ".join(atom(rng, asked) for _ in range(rng.choice([1, 1, 2]))))
-        if rng.random() < 0.3:
-            lines.append("Provides: " + ", ".join(entry(rng, asked) for _ in range(rng.choice([1, 1, 2]))))
-        if rng.random() < 0.2:
-            lines.append("Essential: " + rng.choice(["yes", "yes", "yes", "no", "Yes"]))
-        if rng.random() < 0.1:
-            lines.append("Description: text\n more\n .\n\tand more")
-        if rng.random() < 0.08:
-            lines = [l.split(":")[0].swapcase() + ":" + l.split(":", 1)[1] for l in lines]
-        if rng.random() < 0.1:
-            rng.shuffle(lines)
-        stanzas.append("\n".join(lines) + "\n")
-    if rng.random() < 0.03:
-        stanzas.append(rng.choice(stanzas))
-    gap = rng.choice(["\n", "\n", "\n\n", " \t\n"])
-    return (gap.join(stanzas)).encode()
-
-
-def plain_archive(rng):
-    """One version of each name, alternatives without bounds: questions that need derived lines."""
-    names = list("abcdefg")[:rng.randint(4, 7)]
-    stanzas = []
-    for name in names:
-        others = [n for n in names if n != name]
-        lines = ["Package: " + name, "Version: 1", "Architecture: all"]
-        if rng.random() < 0.8:
-            lines.append("Depends: " + ", ".join(" | ".join(rng.sample(others, rng.choice([1, 2, 2, 3])))
-                                                 for _ in range(rng.choice([1, 1, 2]))))
-        if rng.random() < 0.25:
-            lines.append("Conflicts: " + rng.choice(others))
-        if rng.random() < 0.15:
-            lines.append("Essential: yes")
-        stanzas.append("\n".join(lines) + "\n")
-    return "\n".join(stanzas).encode()
-
-
-def spoil_packages(rng, data):
-    """A small change anywhere in PACKAGES."""
-    kind = rng.randint(0, 6)
-    lines = data.split(b"\n")
-    at = rng.randrange(len(lines))
-    if kind == 0:
-        del lines[at]
-    elif kind == 1:
-        lines.insert(at, lines[rng.randrange(len(lines))])
-    elif kind == 2:
-        lines.insert(at, rng.choice([b"Foo", b"#x: 1", b"-x: 1", b" more", b": 1", b"X y: 1", b"X\xff: 1", b"Depends: a", b"Package: a",
-                                     b"Architecture: i386", b"Source: a (1) x", b"Source: a (", b"Source:", b"Source: a(2)", b"\r"]))
-    elif kind == 3 and lines[at]:
-        j = rng.randrange(len(lines[at]))
-        lines[at] = lines[at][:j] + lines[at][j + 1:]
-    elif kind == 4 and lines[at]:
-        j = rng.randrange(len(lines[at]) + 1)
-        lines[at] = lines[at][:j] + bytes([rng.choice(b" \t\r():|,<=>~-+_.:aZ019\xc3\x00")]) + lines[at][j:]
-    elif kind == 5 and b":" in lines[at]:
-        lines[at] = lines[at].split(b":")[0] + b":" + rng.choice([
-            b"", b" ", b" :1", b" x:1", b" 2147483648:1", b" 2147483647:1", b" 1-", b" -1", b" 1:", b" 1:-1", b" 1_0", b" a (= 1",
-            b" a (== 1)", b" a (1)", b" a (= )", b" a b", b" a | ", b" | a", b" a:", b" a:any:b", b" a [amd64]", b" a (= 1) x",
-            b" a (>= 1_0)", b" a (= 1_0)", b" a, , b,", b" ,", b" a (= 1:2:3-4-5)", b" yes", b" all", b" any"])
-    else:
-        data = data + rng.choice([b"\n", b"\n\nPackage: a\nVersion: 7\n", b"\nPackage: q\n", b" ", b"x", b"\nVersion: 1\n"])
-        return data
-    return b"\n".join(lines)
-
+import small_archives as small
+from small_archives import sc
 
 # ---- a writer of its own: other questions, other derived lines than the program's ----
 
+class GivesUp(Exception):
+    pass
+
+
 def propagate(start, clauses):
-    """Hints of unit steps from some literals, and whether the last one is false."""
+    """Hints of unit steps from some literals, whether the last one is false, and what is true."""
     true, hints = set(start), []
     grown = True
     while grown:
@@ -148,139 +37,178 @@ def propagate(start, clauses):
     return hints, False, true
 
 
-def refute(rng, literals, clauses, lines, variables):
-    while True:
-        hints, done, true = propagate(literals, clauses)
-        if done:
-            return hints
-        free = [v for v in variables if v not in true and -v not in true]
-        if not free:
-            return None
-        l = rng.choice(free) * rng.choice([1, -1])
-        inner = refute(rng, literals + [l], clauses, lines, variables)
-        if inner is None:
-            return None
-        clause = [-l] + [-x for x in literals]
-        lines.append("d %s 0 %s" % (" ".join(map(str, clause)), " ".join(map(str, inner))))
-        clauses.append(clause)
+class Writer:
+    """A certificate in the making, and what it needs to know."""
 
+    def __init__(self, draw, subject):
+        self.draw, self.subject = draw, subject
+        self.clauses = list(subject.inputs)
+        self.limit = draw.choice([1, 1, 1, 2, 3, 10000])
+        self.lines = ["distfuture-certificate 1 %s %s %d %d %d %d" % (
+            subject.kind, "essential" if subject.essential else "plain", self.limit, len(subject.packages), subject.variables, len(subject.inputs))]
+        self.found, self.group, self.steps = [], [], 0
 
-def undecided(rng, literals, inputs, clauses, limit, variables):
-    """Lines that leave a question undecided, or None."""
-    lines, before = [], len(clauses)
-    inside = sorted(sc.cone(literals, inputs))
-    for _ in range(60 * limit):
-        if len(clauses) - before >= limit and rng.random() < 0.7:
-            break
-        pool = [v for v in inside if v not in [abs(l) for l in literals]] or inside
-        clause = [rng.choice(pool) * rng.choice([1, -1])]
-        clause += [-l for l in literals if rng.random() < 0.8 and abs(l) != abs(clause[0])]
-        if rng.random() < 0.4:
-            v = rng.choice(inside)
-            if v not in [abs(l) for l in clause]:
-                clause.append(v * rng.choice([1, -1]))
-        hints, done, _ = propagate([-l for l in clause], clauses)
-        if done and (sc.is_new(clause, literals, clauses, set(inside)) or rng.random() < 0.002):
-            lines.append("d %s 0 %s" % (" ".join(map(str, clause)), " ".join(map(str, hints))))
-            clauses.append(clause)
-    if len(clauses) - before < limit:
-        del clauses[before:]
-        return None
-    return ["q " + " ".join(map(str, literals))] + lines + ["u"]
+    def search(self, literals):
+        """A model as a set of true variables, or None and the hints of a refutation; derived lines are added."""
+        while True:
+            self.steps += 1
+            if self.steps > 400:
+                raise GivesUp
+            hints, is_refuted, true = propagate(literals, self.clauses)
+            if is_refuted:
+                return None, hints
+            unmet = [clause for clause in self.subject.inputs if not any(l in true for l in clause)]
+            if not unmet:
+                return {l for l in true if l > 0}, None
+            free = [l for l in self.draw.choice(unmet) if -l not in true]
+            decided = self.draw.choice(free) * (-1 if self.draw.often(0.2) else 1)
+            model, inner = self.search(literals + [decided])
+            if model is not None:
+                return model, None
+            self.derive([-decided] + [-l for l in literals], inner)
 
+    def derive(self, clause, hints):
+        self.lines.append("d %s 0 %s" % (" ".join(map(str, clause)), " ".join(map(str, hints))))
+        self.clauses.append(clause)
 
-def own_certificate(rng, packages, arch, essential):
-    n = len(packages)
-    inputs = sc.present_clauses(packages, arch, essential)
-    clauses, variables = list(inputs), list(range(1, n + 1))
-    models = [m for size in range(n + 1) for m in itertools.combinations(variables, size)
-              if sc.is_healthy(m, packages, arch, essential)] if n <= 8 else []
-    limit = rng.choice([1, 1, 1, 2, 3, 10000])
-    lines = ["distfuture-certificate 1 strong %s %d %d %d %d" % ("essential" if essential else "plain", limit, n, n, len(inputs))]
-    found = []
+    def leave_open(self, literals):
+        """Lines that leave a question undecided, where that many new ones are found."""
+        draw, before, at = self.draw, len(self.clauses), len(self.lines)
+        inside = sorted(sc.cone(literals, self.subject.inputs))
+        for _ in range(60 * self.limit):
+            if len(self.clauses) - before >= self.limit and draw.often(0.7):
+                break
+            pool = [v for v in inside if v not in [abs(l) for l in literals]] or inside
+            clause = [draw.choice(pool) * draw.choice([1, -1])]
+            clause += [-l for l in literals if draw.often(0.8) and abs(l) != abs(clause[0])]
+            if draw.often(0.4):
+                v = draw.choice(inside)
+                if v not in [abs(l) for l in clause]:
+                    clause.append(v * draw.choice([1, -1]))
+            hints, is_refuted, _ = propagate([-l for l in clause], self.clauses)
+            if is_refuted and sc.is_new(clause, literals, self.clauses, set(inside)):
+                self.derive(clause, hints)
+        if len(self.clauses) - before < self.limit:
+            del self.clauses[before:], self.lines[at:]
+            return False
+        self.lines.append("u")
+        return True
 
-    def ask(literals, own):
+    def ask(self, *literals):
         """f, u or m; lines are added."""
-        if rng.random() < 0.35 and limit < 10000:
-            more = undecided(rng, literals, inputs, clauses, limit, variables)
-            if more:
-                lines.extend(more)
-                return "u"
-        fit = [m for m in models if all((abs(l) in m) == (l > 0) for l in literals)]
-        lines.append("q " + " ".join(map(str, literals)))
-        if fit:
-            m = rng.choice(fit)
-            lines.append("m " + " ".join(map(str, m)) if m else "m")
-            found.append(set(m))
-            own.append(len(found))
-            return "m"
-        hints = refute(rng, literals, clauses, lines, variables)
-        lines.append("f " + " ".join(map(str, hints)))
-        return "f"
+        self.lines.append("q " + " ".join(map(str, literals)))
+        if self.limit < 10000 and self.draw.often(0.5) and self.leave_open(list(literals)):
+            return "u"
+        at, count = len(self.lines), len(self.clauses)
+        model, hints = self.search(list(literals))
+        if model is None:
+            self.lines.append("f " + " ".join(map(str, hints)))
+            return "f"
+        if self.draw.often(0.5):
+            del self.lines[at:], self.clauses[count:]
+        self.install(model)
+        return "m"
 
-    for p in variables:
-        own = []
-        if rng.random() < 0.1:
-            lines.append("m " + " ".join(map(str, rng.choice(models))) if models and rng.random() < 0.5 and models[0] else "q %d" % p)
-            if lines[-1][0] == "m":
-                m = set(map(int, lines[-1].split()[1:]))
-                found.append(m)
-                own.append(len(found))
-        named = [i for i, m in enumerate(found, 1) if p in m]
-        if not named or rng.random() < 0.5:
-            answer = ask([p], own)
-            if answer == "f":
-                lines.append("x %d" % p)
-                continue
-            if answer == "u" and (not named or rng.random() < 0.5):
-                lines.append("y %d" % p)
-                continue
-            named = [i for i, m in enumerate(found, 1) if p in m]
+    def install(self, model):
+        self.lines.append(" ".join(["m"] + [str(v) for v in sorted(model)]))
+        self.found.append(model)
+        self.group.append(len(self.found))
+
+    def having(self, variable):
+        return [number for number, members in enumerate(self.found, 1) if variable in members]
+
+    def open_claim(self, p, named, letter):
+        """Whether package p is installable as its question asks: True, or the claim's letter is written."""
+        if named and self.draw.often(0.6):
+            return True
+        answer = self.ask(*self.subject.question(p))
+        if answer == "m" or (answer == "u" and named and self.draw.often(0.5)):
+            return True
+        self.lines.append("%s %d" % (letter if answer == "f" else "y", p))
+        return False
+
+    def of_outdated(self, p):
+        if self.open_claim(p, self.having(p + 1), "o"):
+            self.lines.append("a %d %d" % (p, self.draw.choice(self.having(p + 1))))
+
+    def its(self, named, variable):
+        return [self.found[n - 1] for n in set(named) | {n for n in self.group if variable in self.found[n - 1]}]
+
+    def named_again(self, named, variable):
+        """Installations to be named: those of other groups that were counted on, and perhaps some of this one."""
+        keep = [n for n in named if n not in self.group or self.draw.often(0.3)]
+        return keep or self.having(variable)[-1:]
+
+    def of_strong(self, p):
+        if not self.open_claim(p, self.having(p), "x"):
+            return
+        named = self.having(p)
+        if len(named) > 2 and self.draw.often(0.5):
+            named = self.draw.sample(named, 2)
         first, second = [], []
-        for q in variables:
-            its = [i for i in set(named) | set(own) if p in found[i - 1]]
-            common = set.intersection(*[found[i - 1] for i in its])
-            if q != p and (q in common or rng.random() < 0.05):
-                answer = ask([p, -q], own)
-                named += [i for i in own if i not in named and p in found[i - 1]]
-                if answer == "f":
-                    first.append(q)
-                elif answer == "u":
-                    second.append(q)
-        its = [i for i in set(named) | set(own) if p in found[i - 1]]
-        common = set.intersection(*[found[i - 1] for i in its])
-        second = [q for q in second if q in common]
-        keep = [i for i in named if i not in own or rng.random() < 0.3] or named[-1:]
-        lines.append("s %d %s 0 %s0 %s" % (p, " ".join(map(str, keep)), "".join("%d " % q for q in first),
-                                           " ".join(map(str, second))))
-        lines[-1] = lines[-1].rstrip(" ")
-    lines.append("e")
-    return ("\n".join(lines) + "\n").encode()
+        for q in range(1, len(self.subject.packages) + 1):
+            common = set.intersection(*self.its(named, p))
+            if q != p and (q in common or self.draw.often(0.05)):
+                {"f": first, "u": second, "m": []}[self.ask(p, -q)].append(q)
+        common = set.intersection(*self.its(named, p))
+        self.claim("s", p, self.named_again(named, p), first, [q for q in second if q in common])
+
+    def of_challenged(self, p):
+        space, v = self.subject.space, p + 1
+        today = [n for n in self.having(v) if 1 in self.found[n - 1]]
+        if not self.open_claim(p, today, "x"):
+            return
+        named = self.having(v) if self.draw.often(0.7) else [n for n in self.having(v) if 1 in self.found[n - 1]]
+        first, second = [], []
+        for c, members in enumerate(space.clusters):
+            for k in range(len(space.classes[c])):
+                if p not in members and (not space.is_covered(c, k, self.its(named, v)) or self.draw.often(0.05)):
+                    {"f": first, "u": second, "m": []}[self.ask(v, space.number["at", c, k])].append((c + 1, k + 1))
+        second = [(c, k) for c, k in second if not space.is_covered(c - 1, k - 1, self.its(named, v))]
+        again = self.named_again(named, v)
+        if not any(1 in members for members in self.its(again, v)):
+            again += [n for n in self.having(v) if 1 in self.found[n - 1]][:1]
+        self.claim("c", p, again, [n for pair in first for n in pair], [n for pair in second for n in pair])
+
+    def claim(self, letter, p, *lists):
+        self.lines.append(" 0 ".join(" ".join(map(str, its)) for its in lists))
+        self.lines[-1] = " ".join(f"{letter} {p} {self.lines[-1]}".split())
+
+    def whole(self):
+        for p in range(1, len(self.subject.packages) + 1):
+            self.group = []
+            if self.found and self.draw.often(0.05):
+                self.install(self.draw.choice(self.found))
+            if self.draw.often(0.05):
+                self.lines.append("q %d" % self.subject.variable(p))
+            getattr(self, "of_" + self.subject.kind)(p)
+        return ("\n".join(self.lines + ["e"]) + "\n").encode()
 
 
-# ---- mutations ----
+# ---- edits ----
 
 LINES = [b"u", b"f", b"e", b"", b" ", b"q", b"q 1", b"q 1 -2", b"q -2 1", b"q 2 -1", b"m", b"m 1", b"m 1 2", b"m 2 1", b"d 0", b"d 1 0 1", b"d 0 1", b"d",
          b"d -1 0 1", b"d 1 -1 0 1", b"x 1", b"y 1", b"o 1", b"a 1 1", b"a 1", b"c 1 1 0 0", b"c 1 1 0 1 1 0 1 2", b"c 1 1 0 1 0",
          b"s 1 1 0 0", b"s 1 0 0", b"s 1 1 0", b"s 1 1 1 0 0", b"z 1", b"E", b"q 0", b"q -0", b"q +1", b"q 1.", b"x 01", b"f 0", b"f -1",
          b"m -1", b"m 0", b"x", b"x 1 1", b"u 1", b"e 0", b"q 4294967295", b"q 4294967296", b"q -4294967296", b"f 4294967295", b"f 4294967296",
-         b"f 99999999999999999999", b"e\r", b"#", b"q\t1", b"\xff", b"q 1 ", b" q 1", b"q  1", b"distfuture-certificate 1 strong plain 1 1 1 1"]
+         b"f 99999999999999999999", b"e\r", b"#", b"q\t1", b"\xff", b"q 1 ", b" q 1", b"q  1", b"distfuture-certificate 1 strong plain 1 1 1 1", b"a 1 2", b"o 2", b"q 1 2", b"q 1 3", b"q 2", b"q 2 4", b"c 2 1 0 0", b"c 1 1 0 2 1 0 2 1",
+         b"c 1 1 1 0 0", b"c 1 0 0", b"a 1 0", b"a 0 1"]
 
 
-def change_word(rng, line):
+def change_word(draw, line):
     words = line.split(b" ")
     places = [i for i, w in enumerate(words) if w.lstrip(b"-").isdigit()]
     if not places:
         return line
-    i = rng.choice(places)
+    i = draw.choice(places)
     value, sign = int(words[i].lstrip(b"-")), b"-" if words[i][:1] == b"-" else b""
-    kind = rng.randint(0, 8)
+    kind = draw.randint(0, 8)
     if kind <= 2:
         words[i] = sign + b"%d" % (value + 1)
     elif kind == 3:
         words[i] = sign + b"%d" % max(0, value - 1)
     elif kind == 4:
-        words[i] = rng.choice([b"0", b"4294967295", b"4294967296", b"18446744073709551617", b"99", b"1000000", b"1000001"])
+        words[i] = draw.choice([b"0", b"4294967295", b"4294967296", b"18446744073709551617", b"99", b"1000000", b"1000001"])
     elif kind == 5:
         words[i] = b"-" + words[i] if not sign else words[i][1:]
     elif kind == 6:
@@ -288,216 +216,237 @@ def change_word(rng, line):
     elif kind == 7:
         del words[i]
     else:
-        words.insert(i, rng.choice([words[i], b"1", b"2", b"3", b"0", b"-1", b"5"]))
+        words.insert(i, draw.choice([words[i], b"1", b"2", b"3", b"0", b"-1", b"5"]))
     return b" ".join(words)
 
 
-def mutate(rng, cert):
+def edit_bytes(draw, text):
+    for _ in range(draw.count(0, 4, 2, 1)):
+        at, some = draw.randrange(len(text) + 1), bytes([draw.choice(b" \n0123456789-qdfmuxysoace\r\t\x00\xff:+")])
+        text = draw.choice([text[:at] + some + text[at + 1:], text[:at] + some + text[at:], text[:at] + text[at + 1:]])
+    return text
+
+
+def edit(draw, cert):
     lines = cert.split(b"\n")
     if lines and lines[-1] == b"":
         lines.pop()
     if not lines:
-        return rng.choice([b"", b"\n", b"e\n", b"e"])
-    at = rng.randrange(len(lines))
-    kind = rng.randint(0, 19)
+        return draw.choice([b"", b"\n", b"e\n", b"e"])
+    at = draw.randrange(len(lines))
+    kind = draw.randint(0, 25)
     if kind == 0:
         del lines[at]
     elif kind == 1:
         lines.insert(at, lines[at])
     elif kind == 2:
-        other = rng.randrange(len(lines))
+        other = draw.randrange(len(lines))
         lines[at], lines[other] = lines[other], lines[at]
     elif kind in (3, 4, 5, 6):
-        lines[at] = change_word(rng, lines[at])
+        lines[at] = change_word(draw, lines[at])
     elif kind == 7:
         hints = [i for i, l in enumerate(lines) if l[:1] in b"fd" and l]
         if hints:
-            i = rng.choice(hints)
-            lines[i] = rng.choice([lines[i].rsplit(b" ", 1)[0], lines[i] + b" %d" % rng.randint(1, 9), b" ".join([lines[i], lines[i].split(b" ")[-1]])])
+            i = draw.choice(hints)
+            lines[i] = draw.choice([lines[i].rsplit(b" ", 1)[0], lines[i] + b" %d" % draw.randint(1, 9), b" ".join([lines[i], lines[i].split(b" ")[-1]])])
     elif kind == 8:
         return b"\n".join(lines)
     elif kind == 9:
-        return b"\n".join(lines) + b"\n" + rng.choice([b"e\n", b"\n", b"x", b"e", b" ", b"\x00", b"q 1\n"])
+        return b"\n".join(lines) + b"\n" + draw.choice([b"e\n", b"\n", b"x", b"e", b" ", b"\x00", b"q 1\n"])
     elif kind == 10:
         words = lines[at].split(b" ")
-        i = rng.randrange(len(words))
+        i = draw.randrange(len(words))
         words[i] = words[i] + b" "
         lines[at] = b" ".join(words)
-    elif kind == 11:
+    elif kind == 11 and draw.often(0.4):
         words = lines[0].split(b" ")
-        i = rng.randrange(len(words))
-        words[i] = rng.choice([b"plain", b"essential", b"strong", b"outdated", b"challenged", b"1", b"2", b"0", b"10000", b"1000000", b"1000001", b"01",
+        i = draw.randrange(len(words))
+        words[i] = draw.choice([b"plain", b"essential", b"strong", b"outdated", b"challenged", b"1", b"2", b"0", b"10000", b"1000000", b"1000001", b"01",
                                b"distfuture-certificate", b"Strong", b"", b"4294967296", b"-1"])
         lines[0] = b" ".join(words)
     elif kind == 12:
         text = b"\n".join(lines) + b"\n"
-        return text[:rng.randrange(len(text))]
+        return text[:draw.randrange(len(text))]
     elif kind == 13:
-        lines.insert(at, rng.choice(LINES))
+        lines.insert(at, draw.choice(LINES))
     elif kind == 14:
-        lines[at] = rng.choice(LINES)
+        lines[at] = draw.choice(LINES)
     elif kind == 15:
         words = lines[at].split(b" ")
         if len(words) > 2:
-            i, j = rng.randrange(1, len(words)), rng.randrange(1, len(words))
+            i, j = draw.randrange(1, len(words)), draw.randrange(1, len(words))
             words[i], words[j] = words[j], words[i]
         lines[at] = b" ".join(words)
     elif kind == 16:
-        lines[at] = rng.choice([b"q", b"d", b"f", b"m", b"u", b"x", b"y", b"s", b"o", b"a", b"c", b"e"]) + lines[at][1:]
+        lines[at] = draw.choice([b"q", b"d", b"f", b"m", b"u", b"x", b"y", b"s", b"o", b"a", b"c", b"e"]) + lines[at][1:]
     elif kind == 17:
         fs = [i for i, l in enumerate(lines) if l[:1] in b"fu" and l]
         if fs:
-            i = rng.choice(fs)
-            lines[i] = b"u" if lines[i][:1] == b"f" else b"f " + b" ".join(b"%d" % rng.randint(1, 6) for _ in range(rng.randint(0, 3)))
+            i = draw.choice(fs)
+            lines[i] = b"u" if lines[i][:1] == b"f" else b"f " + b" ".join(b"%d" % draw.randint(1, 6) for _ in range(draw.randint(0, 3)))
     elif kind == 18:
         header = lines[0].split(b" ")
         if len(header) == 8:
-            header[4] = rng.choice([b"1", b"2", b"3", b"10000"])
+            header[4] = draw.choice([b"1", b"2", b"3", b"10000"])
             lines[0] = b" ".join(header)
+    elif kind == 19:
+        first, rest = lines[0] + b"\n", b"".join(line + b"\n" for line in lines[1:])
+        return first + edit_bytes(draw, rest) if rest and draw.often(0.8) else edit_bytes(draw, first + rest)
+    elif kind == 20:
+        # A group, or the lines of one claim, goes elsewhere or away.
+        claims = [0] + [i for i, l in enumerate(lines) if l[:1] in b"xysoac" and l]
+        i = draw.randrange(len(claims))
+        its = lines[claims[i] + 1:(claims + [len(lines) - 1])[i + 1] + 1]
+        del lines[claims[i] + 1:claims[i] + 1 + len(its)]
+        if draw.often(0.7):
+            lines[1:1] = its if draw.often(0.5) else its[:-1]
+    elif kind == 21:
+        # Two numbers of a list come or go, as pairs do.
+        words = lines[at].split(b" ")
+        i = draw.randrange(1, len(words) + 1)
+        if draw.often(0.5):
+            del words[i:i + 2]
+        else:
+            words[i:i] = [b"%d" % draw.randint(1, 4), b"%d" % draw.randint(1, 4)]
+        lines[at] = b" ".join(words)
+    elif kind == 22:
+        # Hints: one at random comes, goes, or two change places.
+        hints = [i for i, l in enumerate(lines) if l[:1] in b"fd" and l]
+        if hints:
+            i = draw.choice(hints)
+            words = lines[i].split(b" ")
+            j = draw.randrange(1, len(words) + 1)
+            words[j:j + draw.randint(0, 1)] = [draw.choice(words)] if draw.often(0.5) else []
+            lines[i] = b" ".join(words)
+    elif kind == 24:
+        # A refutation becomes a derived line, which is not new, and the question is left undecided behind it.
+        closed = [i for i, l in enumerate(lines) if l[:1] == b"f" and lines[i - 1][:1] == b"q"]
+        if closed:
+            i = draw.choice(closed)
+            literals = [word[1:] if word[:1] == b"-" else b"-" + word for word in lines[i - 1].split(b" ")[1:]]
+            lines[i:i + 1] = [b" ".join([b"d", *literals, b"0", *lines[i].split(b" ")[1:]]), b"u"]
+            lines[0] = b" ".join(lines[0].split(b" ")[:4] + [b"1"] + lines[0].split(b" ")[5:])
+    elif kind == 23 and draw.often(0.05):
+        its = [l for l in lines if l[:1] == b"m"]
+        lines[at:at] = [draw.choice(its)] * draw.randint(1022, 1026) if its else []
     else:
-        n = rng.randint(1, 7)
-        size = rng.randint(0, n)
-        lines.insert(at, b" ".join([b"m"] + [b"%d" % v for v in sorted(rng.sample(range(1, n + 1), size))]))
+        n = draw.randint(1, 7)
+        size = draw.randint(0, n)
+        lines.insert(at, b" ".join([b"m"] + [b"%d" % v for v in sorted(draw.sample(range(1, n + 1), size))]))
     return b"\n".join(lines) + b"\n"
 
 
 # ---- comparison ----
 
-def program(path, packages, cert, runs=[0]):
-    runs[0] += 1
-    with open(P, "wb") as f:
-        f.write(packages)
-    with open(C, "wb") as f:
-        f.write(cert)
-    got = subprocess.run([path, "check", P, C], stdin=subprocess.DEVNULL, capture_output=True, timeout=60)
-    return got.returncode, got.stdout.decode("latin-1"), got.stderr.decode("latin-1")
-
-
 def short(answer):
     """What kind of answer it is, for counting."""
     status, _, err = answer
-    if status == 4:
-        return "4 " + err.strip().split(": ")[-1]
-    if status == 3:
-        return "3 " + err.strip().split(": ", 2)[-1]
-    return "%d %s" % (status, err.strip())
+    return f"status {status} " + err.strip().split(": ")[-1]
 
 
-def differ(mine, theirs):
-    """None, 'KIND' where only the name of a fault of PACKAGES differs, else 'ALL'."""
-    if mine == theirs:
-        return None
-    if mine[0] == theirs[0] == 3 and mine[1] == theirs[1]:
-        if mine[2].rsplit(": ", 1)[0] == theirs[2].rsplit(": ", 1)[0]:
-            return "KIND"
-    return "ALL"
+class Trial:
+    """One archive, and what is asked of it."""
+
+    def __init__(self, runner, data, packages, arch):
+        self.runner, self.data, self.packages, self.arch = runner, data, packages, arch
+        self.truth, self.subjects = small.Truth(packages, arch), {}
+
+    def difference(self, cert, truths=True):
+        """(what differs or None, the answer)."""
+        self.runner.put("packages", self.data)
+        self.runner.put("cert", cert)
+        *mine, accepted = sc.check_read(self.packages, self.arch, cert, self.subjects)
+        answer = self.runner.run("check", "/packages", "/cert")
+        if tuple(mine) != answer:
+            return ("they differ", short(mine), short(answer)), answer
+        untrue = accepted and truths and self.truth.untrue(accepted[0], accepted[2])
+        return (("accepted and untrue",) + untrue if untrue else None), answer
 
 
-def shrink(path, packages, cert, key, budget):
-    """Leaves out stanzas and lines while the two still differ in the same way."""
-    def same(p, c):
-        nonlocal budget
-        budget -= 1
-        mine, theirs = sc.check_bytes(p, c), program(path, p, c)
-        return differ(mine, theirs) and (short(mine), short(theirs)) == key
-    changed = True
-    while changed and budget > 0:
-        changed = False
-        for which in (0, 1):
-            lines = (cert if which == 0 else packages).split(b"\n")
-            i = 0
-            while i < len(lines) and budget > 0:
-                text = b"\n".join(lines[:i] + lines[i + 1:])
-                if same(packages, text) if which == 0 else same(text, cert):
-                    lines, changed = lines[:i] + lines[i + 1:], True
-                    if which == 0:
-                        cert = text
-                    else:
-                        packages = text
-                else:
-                    i += 1
-    return packages, cert
-
-
-def main():
-    path = os.path.abspath(sys.argv[1])
-    seconds = float(sys.argv[2]) if len(sys.argv) > 2 else 50
-    seed = int(sys.argv[3]) if len(sys.argv) > 3 else 1
-    bad_share = float(sys.argv[4]) if len(sys.argv) > 4 else 0.15
-    rng = random.Random(seed)
-    end, agreed, kinds, found, seen, archives = time.time() + seconds, 0, {}, {}, {}, 0
-    while time.time() < end:
-        packages = plain_archive(rng) if rng.random() < 0.35 else archive(rng)
-        archives += 1
+def shorter(runner, trial, cert, key):
+    """The files with stanzas and lines left out, while they differ in the same way."""
+    def differs(data, text):
         try:
-            read, arch = sc.read_packages(packages)
+            other = Trial(runner, data, *sc.read_packages(data))
         except sc.End:
-            read = None
-        certs = []
+            return False
+        found = other.difference(text)[0]
+        return found is not None and found[0] == key[0] and (key[0] != "they differ" or found == key)
+
+    data, is_shorter = trial.data, True
+    while is_shorter:
+        is_shorter = False
+        for which in (0, 1):
+            at = 0
+            while True:
+                lines = (data, cert)[which].split(b"\n")
+                if at >= len(lines):
+                    break
+                text = b"\n".join(lines[:at] + lines[at + 1:])
+                if differs(*((text, cert) if which == 0 else (data, text))):
+                    data, cert, is_shorter = (text, cert, True) if which == 0 else (data, text, True)
+                else:
+                    at += 1
+    return data, cert
+
+
+def certificates(draw, trial):
+    """Certificates of all kinds and both modes: the program's, and others."""
+    trial.runner.put("packages", trial.data)
+    for kind in ("strong", "outdated", "challenged"):
         for essential in (False, True):
-            limit = rng.choice([[], [], ["--limit", "1"], ["--limit", "2"]])
-            with open(P, "wb") as f:
-                f.write(packages)
-            if os.path.exists(C):
-                os.remove(C)
-            made = subprocess.run([path, "strong"] + limit + (["--essential"] if essential else []) + [P, C],
-                                  stdin=subprocess.DEVNULL, capture_output=True, timeout=60)
-            if made.returncode in (0, 1):
-                with open(C, "rb") as f:
-                    cert = f.read()
-                certs.append(cert)
-                mine = sc.check_bytes(packages, cert)
-                if mine != (made.returncode, made.stdout.decode("latin-1"), made.stderr.decode("latin-1")):
-                    found.setdefault(("strong " + short(mine), str(made.returncode)), (packages, cert))
-            elif read is not None:
-                found.setdefault(("strong status", str(made.returncode) + made.stderr.decode("latin-1")), (packages, b""))
-            if read is not None:
-                certs.append(own_certificate(rng, read, arch, essential))
-        if not certs:
-            certs = [b"e\n"]
-        trials = [(packages, c) for c in certs]
-        for _ in range(24):
-            cert = rng.choice(certs)
-            for _ in range(rng.choice([1, 1, 1, 2, 3])):
-                cert = mutate(rng, cert)
-            trials.append((packages, cert))
-        for _ in range(int(24 * bad_share) + (rng.random() < (24 * bad_share) % 1)):
-            trials.append((spoil_packages(rng, packages), rng.choice(certs)))
-        for p, c in trials:
-            mine, theirs = sc.check_bytes(p, c), program(path, p, c)
-            how = differ(mine, theirs)
-            if how is None:
-                agreed += 1
-                seen[short(mine)] = seen.get(short(mine), 0) + 1
-            elif how == "KIND":
-                key = (mine[2].split(": ")[-1].split(" in ")[0], theirs[2].split(": ")[-1].split(" in ")[0])
-                kinds.setdefault(key, [0, p])[0] += 1
-            else:
-                key = (short(mine), short(theirs))
-                if key not in found or len(p) + len(c) < sum(map(len, found[key])):
-                    found[key] = (p, c)
-    print("seed", seed, "archives", archives, "agreed", agreed, "runs of check", program.__defaults__[0][0])
-    for key in sorted(seen):
-        print("  agreed on", key, seen[key])
-    for key, (count, p) in sorted(kinds.items()):
-        print("  only the name of the fault differs: mine", repr(key[0]), "program", repr(key[1]), "times", count)
-    for i, (key, (p, c)) in enumerate(sorted(found.items())):
-        if not key[0].startswith("strong"):
-            p, c = shrink(path, p, c, key, 150)
-        base = os.path.join(WORK, "seed%d-%d" % (seed, i))
-        os.makedirs(base, exist_ok=True)
-        for name, text in (("p", p), ("c", c)):
-            with open(os.path.join(base, name), "wb") as f:
-                f.write(text)
-        print("DISAGREE mine", repr(key[0]), "program", repr(key[1]), "in", base)
-    for name in (P, C):
-        if os.path.exists(name):
-            os.remove(name)
-    # What they disagree on is left there to be looked at.
-    if not found:
-        os.rmdir(WORK)
-    sys.exit(1 if found or kinds else 0)
+            limit = draw.choice([[], [], ["--limit", "1"], ["--limit", "2"]])
+            status, _, err = trial.runner.run(kind, "/packages", "/cert", *limit, *["--essential"] * essential, writes="cert")
+            if status not in (0, 1):
+                raise AssertionError(f"{kind} ended with {status} {err}")
+            yield trial.runner.get("cert")
+            key = (kind, "essential" if essential else "plain")
+            if key not in trial.subjects:
+                trial.subjects[key] = sc.Subject(trial.packages, trial.arch, kind, essential)
+            if trial.subjects[key].variables < 90:
+                try:
+                    yield Writer(draw, trial.subjects[key]).whole()
+                except GivesUp:
+                    pass
 
 
-if __name__ == "__main__":
-    main()
+def main(program, certificates_wanted="20000", seed="1", seconds="1e9"):
+    draw, end = small.Draw(int(seed)), time.monotonic() + float(seconds)
+    runner, seen, archives, count, accepted, found = small.Runner(program), collections.Counter(), 0, 0, 0, None
+    while count < int(certificates_wanted) and time.monotonic() < end and not found:
+        trial = Trial(runner, *small.readable_archive(draw, 6))
+        archives += 1
+        whole = list(certificates(draw, trial))
+        # Of the first archive each front of each certificate, and of all others edits.
+        edited = [text[:length] for text in whole for length in range(len(text))] if archives == 1 else []
+        for _ in range(60):
+            text = draw.choice(whole)
+            for _ in range(draw.choice([1, 1, 1, 2, 3])):
+                text = edit(draw, text)
+            edited.append(text)
+        for is_whole, texts in ((True, whole), (False, edited)):
+            for text in texts:
+                found, answer = trial.difference(text)
+                if found:
+                    break
+                if is_whole and answer[0] > 1:
+                    found = ("refused", short(answer))
+                    break
+                count += 1
+                accepted += answer[0] < 2
+                words = text.split(b"\n")[0].split(b" ")
+                kind = words[2].decode() if len(words) == 8 and words[2] in (b"strong", b"outdated", b"challenged") else "no kind"
+                seen[f"{kind} {'whole' if is_whole else 'edited'}: {short(answer)}"] += 1
+            if found:
+                break
+    print(f"seed {seed}: {archives} archives, {count} certificates, {accepted} of them accepted and all claims of these true, {runner.runs} runs of the program")
+    for told, number in sorted(seen.items()):
+        print(f"  {told}: {number}")
+    if found:
+        data, text = (trial.data, text) if found[0] == "refused" else shorter(runner, trial, text, found)
+        print(f"DIFFERENCE {found}\n---- PACKAGES\n{data.decode('latin-1')}\n---- CERT\n{text.decode('latin-1')}")
+    runner.close()
+    return 1 if found else 0
+
+
+sys.exit(main(*sys.argv[1:]))

@@ -1,8 +1,11 @@
 #!/usr/bin/env python3
-"""Times the program on files made to be slow, at half a size and at the whole of it. It prints for each the seconds, the growth,
+"""Times the program on files made to be slow, at half a size and at the whole of it. It prints for each the seconds of the processor, the growth,
 and the memory against the bytes of the files, and ends with a fault where doubling the size costs more than 2.6 times as much,
 or the memory is more than twelve times the files. What takes under a tenth of a second is not judged.
-Usage: hostile.py PROGRAM [BENCH [WORD..]]    the program and dist_bench, as `rt run` leaves them; the rows whose name has a WORD"""
+Rows that begin with the name of a command are on files at the stated limits. Their memory is told, and not judged. Where the answer itself, or
+the certificate, grows with a power of the size, so may the time. A certificate of more than 16 GB ends a run with a write fault.
+Usage: hostile.py PROGRAM [BENCH [WORD..]]    the program and dist_bench, as `rt run` leaves them, or - for none; the rows whose name has a WORD;
+with $SHARE of the sizes, if it is set"""
 import os
 import random
 import subprocess
@@ -223,18 +226,108 @@ ROWS = {
 }
 
 
-# Runs a program and prints its seconds, its most memory and its status. It is a process of its own, since the memory of the one
+# ---- every command at the stated limits
+
+def chain(n, first):
+    """Each package needs the next one. first: whether those come first that need nothing."""
+    if first == "end":
+        return "".join(stanza(f"p{k:06}", more=f"Depends: p{k - 1:06}\n" if k else "") for k in range(n))
+    return "".join(stanza(f"p{k:06}", more=f"Depends: p{k + 1:06}\n" if k < n - 1 else "") for k in range(n))
+
+
+def star(n, bound=""):
+    return stanza("c") + "".join(stanza(f"p{k:06}", more=f"Depends: c{bound}\n") for k in range(n - 1))
+
+
+def wide_star(n):
+    return stanza("c", more="Depends: " + ", ".join(f"p{k:06}" for k in range(n - 1)) + "\n") + "".join(stanza(f"p{k:06}") for k in range(n - 1))
+
+
+def one_source(n):
+    return "".join(stanza(f"p{k:06}", more="Source: s\n") for k in range(n - 1)) + stanza("q", more="Depends: p000000 (<< 2)\n")
+
+
+def all_against_all(n):
+    """So many conflicts on a name that as many others provide."""
+    return "".join(stanza(f"p{k:06}", more="Conflicts: x\n") + stanza(f"q{k:06}", more="Provides: x\n") for k in range(n))
+
+
+def mixed(n, width=0):
+    """Packages that need some of those before them, with bounds, alternatives, a few sources and a few conflicts; width: the bytes of each, about."""
+    draw = random.Random(n)
+    told = "Description: " + "x" * max(0, width - 130) + "\n" if width else ""
+    texts = []
+    for k in range(n):
+        more = f"Source: s{k // 3:06}\n"
+        near = lambda: f"p{draw.randrange(max(0, k - 1000), k):06}" + draw.choice(["", "", " (>= 1)", " (<< 3)"])
+        if k and draw.random() < 0.8:
+            more += "Depends: " + ", ".join(draw.choice([near(), near() + " | " + near()]) for _ in range(draw.choice([1, 1, 2]))) + "\n"
+        if k and draw.random() < 0.02:
+            more += f"Conflicts: {near()}\n"
+        texts.append(stanza(f"p{k:06}", more=more + told))
+    return "".join(texts)
+
+
+def of_bytes(n):
+    """A file of just so many bytes, with a stanza for each 1,343 of them."""
+    text = mixed(n // 1343, 1240)
+    return text[:-1] + "X-Fill: " + "x" * (n - len(text) - 8) + "\n"
+
+
+# The size, the file, and of each command the power of the size with which its certificate grows, where that is not 1.
+LOADS = {
+    "a chain of so many, its end first": (200_000, lambda n: chain(n, "end"), {"outdated": 1, "challenged": 1}),
+    "a chain of so many, its head first": (200_000, lambda n: chain(n, "head"), {}),
+    "a star of so many": (200_000, star, {}),
+    "a star of so many, with a bound": (200_000, lambda n: star(n, " (<< 2)"), {}),
+    "one that needs so many": (200_000, wide_star, {}),
+    "so many of one source": (200_000, one_source, {}),
+    "so many conflicts on a name that as many provide": (2_000, all_against_all, {kind: 2 for kind in ("health", "strong", "outdated", "challenged", "check")}),
+    "so many mixed ones": (200_000, mixed, {}),
+    "a file of so many bytes": (268_435_456, of_bytes, {}),
+}
+SWEEPS = ("strong", "outdated", "challenged")
+
+
+def load_rows():
+    for told, (size, make, powers) in LOADS.items():
+        for words in (["health", "packages", "list"], ["classes", "packages"], *([kind, "packages", "cert"] for kind in SWEEPS)):
+            kind = words[0]
+            if kind == "strong" and told.startswith("a chain"):
+                # Each package needs all after it, and each of these needs a refutation of as many hints: the answer grows with the square.
+                yield f"strong on {told}", (1_000, lambda n, make=make: (["strong", "packages", "cert"], make(n), ""), 3)
+                yield f"strong on {told}, to the limit of a certificate", (size, lambda n, make=make: (["strong", "packages", "/dev/null"], make(n), ""), None)
+                continue
+            members = (lambda text: "".join(f"{line[9:]} 1\n" for line in text.split("\n") if line.startswith("Package: "))) if kind == "health" else (lambda text: "")
+
+            def row(n, words=words, make=make, members=members):
+                text = make(n)
+                return words, text, members(text)
+
+            yield f"{kind} on {told}", (size, row, powers.get(kind, 1))
+            if kind in SWEEPS:
+                yield f"check of {kind} on {told}", (size, lambda n, make=make, kind=kind: (["check", "packages", "cert"], make(n), "", [kind, "packages", "cert"]),
+                                                     powers.get("check", 1))
+    yield "classes on one stanza too many", (200_001, lambda n: (["classes", "packages"], mixed(n), ""), None)
+    yield "classes on one byte too many", (268_435_457, lambda n: (["classes", "packages"], of_bytes(n), ""), None)
+    yield "check of one derived line too many", (16_000_001, lambda n: (["check", "packages", "list"], stanza("a", more="Depends: b\n"), header() + "d -1 0 1\n" * n), None)
+    yield "check of one literal too many", (8_000_000, lambda n: (["check", "packages", "list"], stanza("a", more="Depends: b\n") + "".join(stanza(f"b{k}") for k in range(8)),
+        header("plain", "9 9 1") + "d -1 2 3 4 5 6 7 8 0 1\n" * n + "d -1 0 1\n"), None)
+
+
+# Runs a program and prints its seconds of the processor, its most memory and its status. It is a process of its own, since the memory of the one
 # that makes the files would count for the program.
 RUNNER = """
-import os, sys, time
-start = time.perf_counter()
+import os, resource, signal, sys
 child = os.fork()
 if not child:
+    signal.signal(signal.SIGXFSZ, signal.SIG_IGN)
+    resource.setrlimit(resource.RLIMIT_FSIZE, (2**34, 2**34))
     for number, name in ((1, "out"), (2, "err")):
         os.dup2(os.open(name, os.O_WRONLY | os.O_CREAT | os.O_TRUNC), number)
     os.execv(sys.argv[1], sys.argv[1:])
 _, status, used = os.wait4(child, 0)
-print(time.perf_counter() - start, used.ru_maxrss * 1024, os.waitstatus_to_exitcode(status))
+print(used.ru_utime + used.ru_stime, used.ru_maxrss * 1024, os.waitstatus_to_exitcode(status))
 """
 
 
@@ -250,27 +343,45 @@ def best(words, folder, runs=2):
 
 
 def main(program, bench=None, *chosen):
-    programs = {"bench": bench and os.path.abspath(bench)}
+    programs = {"bench": bench and bench != "-" and os.path.abspath(bench)}
     faults = 0
     with tempfile.TemporaryDirectory() as folder:
         for name in ("packages", "list"):
             open(f"{folder}/{name}", "w").close()
         _, empty, _ = best([os.path.abspath(program), "health", "packages", "list"], folder)
-        for told, (size, make) in ROWS.items():
+        for told, (size, make, *power) in [*ROWS.items(), *load_rows()]:
             if chosen and not any(word in told for word in chosen):
                 continue
+            # What only comes at the whole of a limit is not tried at a share of it.
+            if power == [None] and "SHARE" in os.environ:
+                continue
+            size, power, is_load = max(2, int(size * float(os.environ.get("SHARE", "1")))), (power or [1])[0], bool(power)
             results = []
-            for count in (size // 2, size):
-                words, packages, other = make(count)
+            for count in (size // 2, size) if power else (size,):
+                words, packages, other, *before = make(count)
                 for name, text in (("packages", packages), ("list", other)):
                     with open(f"{folder}/{name}", "w") as file:
                         file.write(text)
                 which = programs.get(words[0], os.path.abspath(program))
                 if not which:
                     break
-                results.append(best([which, *(words[1:] if words[0] in programs else words)], folder))
-            if len(results) < 2:
+                for its in before:
+                    best([os.path.abspath(program), *its], folder, 1)
+                results.append(best([which, *(words[1:] if words[0] in programs else words)], folder, 1 if is_load else 2))
+            if not results:
                 print(f"{told}: not tried, no dist_bench was named")
+                continue
+            if is_load:
+                cert = os.path.getsize(f"{folder}/cert") if "cert" in words else 0
+                whole, memory, ended = results[-1]
+                growth = whole / results[0][0]
+                is_slow = bool(power) and whole >= LEAST_SECONDS and growth > MOST_GROWTH**power
+                faults += is_slow
+                print(f"{told}: {size}, {len(packages) / 1e6:.1f} MB: {whole:.2f} s, " + (f"{growth:.2f} times half of it, " if power else "")
+                      + f"memory {memory / 1e6:.0f} MB, certificate {cert / 1e6:.1f} MB, report {os.path.getsize(f'{folder}/out') / 1e6:.1f} MB, {ended}"
+                      f"{'  TOO SLOW' if is_slow else ''}", flush=True)
+                if os.path.exists(f"{folder}/cert"):
+                    os.remove(f"{folder}/cert")
                 continue
             (half, _, _), (whole, memory, ended) = results
             bytes_read = len(packages) + len(other)

@@ -1,11 +1,11 @@
 #!/usr/bin/env python3
-"""A second checker of certificates of kind strong, by README.md and docs/: it shares no code with the program.
+"""A second checker of certificates, by README.md and docs/: it shares no code with the program.
 
 Usage: second-check.py [check] PACKAGES CERT     (statuses and texts as `distfuture check PACKAGES CERT`)
 """
 import re
 import sys
-from functools import cmp_to_key
+from functools import cmp_to_key, lru_cache
 from itertools import zip_longest
 
 sys.set_int_max_str_digits(0)
@@ -46,6 +46,7 @@ def too_large(what):
 UPSTREAM = frozenset(b"abcdefghijklmnopqrstuvwxyzABCDEFGHIJKLMNOPQRSTUVWXYZ0123456789.+-~:")
 REVISION = frozenset(b"abcdefghijklmnopqrstuvwxyzABCDEFGHIJKLMNOPQRSTUVWXYZ0123456789.+~")
 
+@lru_cache(100000)
 def read_version(text):
     """(epoch, upstream, revision) or the name of the first fault."""
     if not text:
@@ -97,6 +98,7 @@ def compare_parts(a, b):
             return -1 if x < y else 1
     return 0
 
+@lru_cache(100000)
 def compare_versions(a, b):
     """a and b as read_version gives them."""
     if a[0] != b[0]:
@@ -356,7 +358,10 @@ def present_clauses(packages, arch, essential):
 
 def is_healthy(members, packages, arch, essential):
     """By the definition, not by the clauses. members: numbers from 1."""
-    chosen = [packages[k - 1] for k in members]
+    return is_healthy_list([packages[k - 1] for k in members], packages, arch, essential)
+
+def is_healthy_list(chosen, packages, arch, essential):
+    """Whether a list of packages, perhaps of a future, is healthy."""
     if len({p["name"] for p in chosen}) != len(chosen):
         return False
     for p in chosen:
@@ -371,6 +376,223 @@ def is_healthy(members, packages, arch, essential):
         names = {p["name"] for p in chosen}
         return all(p["name"] in names for p in packages if p["essential"])
     return True
+
+# ---- clusters and classes (DEFINITIONS, "Clusters and classes"; CERTIFICATES, "The subject of a Packages file") ----
+
+def newest(packages):
+    """The greatest version of each name; the packages come in order."""
+    return [p for p, after in zip(packages, packages[1:] + [None]) if after is None or after["name"] != p["name"]]
+
+def without_rebuild(text):
+    """A version's text without the suffix of a rebuild."""
+    suffix = re.search(rb"\+b[0-9]+\Z", text)
+    left = text[:suffix.start()] if suffix else text
+    return text if read_version(left)[1] else left
+
+def same_version(a, b):
+    return compare_versions(read_version(a)[0], read_version(b)[0]) == 0
+
+def in_one_cluster(p, q):
+    return (p["source"][0] == q["source"][0] and same_version(p["source"][1], q["source"][1])
+            and same_version(without_rebuild(p["text"]), without_rebuild(q["text"])))
+
+def clusters_of(packages):
+    """Lists of package numbers from 1, in order of the least."""
+    clusters = []
+    for k, p in enumerate(packages, 1):
+        for cluster in clusters:
+            if in_one_cluster(packages[cluster[0] - 1], p):
+                cluster.append(k)
+                break
+        else:
+            clusters.append([k])
+    return clusters
+
+BY_VERSION = cmp_to_key(lambda a, b: compare_versions(read_version(a)[0], read_version(b)[0]))
+
+def top_of(texts):
+    """The greatest of some texts of versions, the least in bytes of equal ones."""
+    most = max(texts, key=BY_VERSION)
+    return min(text for text in texts if same_version(text, most))
+
+def is_moving(entry, package, arch):
+    return is_usable(entry[1], arch) and has_own_version(entry, package)
+
+def has_own_version(entry, package):
+    return entry[2] is not None and compare_versions(entry[2][2], package["version"]) == 0
+
+def usable_atoms(packages, arch):
+    atoms = [atom for p in packages for item in p["items"] for atom in item] + [atom for p in packages for atom in p["conflicts"]]
+    return [atom for atom in atoms if is_usable(atom[1], arch)]
+
+def cuts_of(texts):
+    """Rising versions, each by its text that is least in bytes."""
+    cuts = []
+    for text in sorted(sorted(texts), key=BY_VERSION):
+        if not cuts or not same_version(cuts[-1], text):
+            cuts.append(text)
+    return cuts
+
+def classes_from(first, cuts):
+    """Classes as pairs of bounds: (kind, text) or (kind, text, text). first: what lies below the least cut, by that cut."""
+    if not cuts:
+        return [first(None)]
+    classes = [first(cuts[0])]
+    for cut, after in zip(cuts, cuts[1:] + [None]):
+        classes += [("point", cut), ("above", cut) if after is None else ("between", cut, after)]
+    return classes
+
+def classes_of_cluster(members, packages, arch):
+    top = top_of([packages[k - 1]["text"] for k in members])
+    names = {packages[k - 1]["name"] for k in members}
+    names |= {entry[0] for k in members for entry in packages[k - 1]["provides"] if is_moving(entry, packages[k - 1], arch)}
+    bounds = [atom[2] for atom in usable_atoms(packages, arch) if atom[0] in names and atom[2] is not None]
+    cuts = cuts_of([text for _, text, version in bounds if compare_versions(version, read_version(top)[0]) > 0])
+    return top, classes_from(lambda cut: ("above", top) if cut is None else ("between", top, cut), cuts)
+
+def new_names(packages, arch):
+    asked = {atom[0] for p in packages for item in p["items"] for atom in item if is_usable(atom[1], arch)}
+    asked -= {p["name"] for p in packages}
+    return sorted(asked - {entry[0] for p in packages for entry in p["provides"] if is_usable(entry[1], arch)})
+
+def classes_of_name(name, packages, arch):
+    cuts = cuts_of([atom[2][1] for atom in usable_atoms(packages, arch) if atom[0] == name and atom[2] is not None])
+    return classes_from(lambda cut: ("any",) if cut is None else ("below", cut), cuts)
+
+def after(text, tildes):
+    """A version above one, and below each greater one of at most so many bytes."""
+    revision = read_version(text)[0][2]
+    text += b"" if revision else b"-"
+    return text + (b"" if revision and 48 <= revision[-1] <= 57 else b"0") + b"A" + b"~" * tildes
+
+@lru_cache(100000)
+def example_of(cls):
+    if cls[0] == "point":
+        return cls[1]
+    if cls[0] == "between":
+        return after(cls[1], len(cls[2]))
+    return {"above": lambda: after(cls[1], 0), "below": lambda: b"~" * (len(cls[1]) + 1), "any": lambda: b"0"}[cls[0]]()
+
+def class_text(cls):
+    return {"point": b"= %s", "between": b">> %s, << %s", "above": b">> %s", "below": b"<< %s", "any": b"any"}[cls[0]] % cls[1:]
+
+# ---- the space of futures (CERTIFICATES, "The subject of a Packages file") ----
+
+class Space:
+    """Variables and clauses. packages: the newest of each name."""
+
+    def __init__(self, packages, arch, essential):
+        self.packages, self.arch, self.essential = packages, arch, essential
+        self.clusters = clusters_of(packages)
+        both = [classes_of_cluster(members, packages, arch) for members in self.clusters]
+        self.tops, self.classes = [top for top, _ in both], [classes for _, classes in both]
+        self.names = new_names(packages, arch)
+        self.name_classes = [classes_of_name(name, packages, arch) for name in self.names]
+        self.meanings = [None, ("now",)] + [("present", r) for r in range(1, len(packages) + 1)]
+        for c, members in enumerate(self.clusters):
+            for k in range(len(self.classes[c])):
+                self.meanings.append(("at", c, k))
+                for r in members:
+                    self.meanings.append(("new", r, c, k))
+                    self.meanings += [("kept", r, c, k, j) for j, entry in enumerate(packages[r - 1]["provides"]) if is_usable(entry[1], arch)]
+        self.meanings += [("fresh", x, k) for x in range(len(self.names)) for k in range(len(self.name_classes[x]))]
+        self.number = {meaning: v for v, meaning in enumerate(self.meanings) if v}
+        self.using = [{v for v, m in enumerate(self.meanings) if v and ((m[0] == "present" and m[1] in members) or (m[0] == "new" and m[2] == c))}
+                      for c, members in enumerate(self.clusters)]
+        self.of_future = self.exclusions()
+        self.of_now = [[-1, -v] for v, m in enumerate(self.meanings) if v and m[0] in ("at", "fresh")]
+        self.clauses = self.of_future + self.demands() + self.of_now
+        if essential:
+            for name in sorted({p["name"] for p in packages if p["essential"]}):
+                self.clauses.append([v for v, m in enumerate(self.meanings) if v and m[0] in ("present", "new") and self.name_of(m) == name])
+
+    def name_of(self, meaning):
+        return self.names[meaning[1]] if meaning[0] == "fresh" else self.packages[meaning[1] - 1]["name"]
+
+    def exclusions(self):
+        clauses = []
+        for c, classes in enumerate(self.classes):
+            at = [self.number["at", c, k] for k in range(len(classes))]
+            clauses += [[-a, -b] for i, a in enumerate(at) for b in at[i + 1:]]
+        for c, members in enumerate(self.clusters):
+            for k in range(len(self.classes[c])):
+                at = self.number["at", c, k]
+                for r in members:
+                    new = self.number["new", r, c, k]
+                    clauses += [[-self.number["present", r], -at], [-new, at]]
+                    clauses += [[-v, new] for v, m in enumerate(self.meanings) if v and m[:4] == ("kept", r, c, k)]
+        for x, classes in enumerate(self.name_classes):
+            fresh = [self.number["fresh", x, k] for k in range(len(classes))]
+            clauses += [[-a, -b] for i, a in enumerate(fresh) for b in fresh[i + 1:]]
+        return clauses
+
+    def example(self, meaning):
+        if meaning[0] == "fresh":
+            return example_of(self.name_classes[meaning[1]][meaning[2]])
+        return example_of(self.classes[meaning[2]][meaning[3]])
+
+    def is_matched(self, atom, meaning):
+        """Whether an atom is matched by a variable of this meaning."""
+        name, qualifier, bound = atom
+        if not is_usable(qualifier, self.arch) or meaning[0] in ("now", "at"):
+            return False
+        if meaning[0] == "present":
+            return matches(atom, self.packages[meaning[1] - 1], self.arch)
+        if meaning[0] == "kept":
+            package = self.packages[meaning[1] - 1]
+            entry = package["provides"][meaning[4]]
+            if entry[0] != name or (bound is not None and entry[2] is None):
+                return False
+            return bound is None or satisfies(read_version(self.example(meaning))[0] if has_own_version(entry, package) else entry[2][2], bound)
+        return self.name_of(meaning) == name and (bound is None or satisfies(read_version(self.example(meaning))[0], bound))
+
+    def demands(self):
+        clauses = []
+        numbered = [(v, m) for v, m in enumerate(self.meanings) if v]
+        for r, p in enumerate(self.packages, 1):
+            for item in p["items"]:
+                if not any(matches(atom, p, self.arch) for atom in item):
+                    clauses.append([-self.number["present", r]] + [v for v, m in numbered if any(self.is_matched(atom, m) for atom in item)])
+        for r, p in enumerate(self.packages, 1):
+            own = self.number["present", r]
+            for v, m in numbered:
+                if v <= own or m[0] == "at" or self.name_of(m) == p["name"]:
+                    continue
+                if m[0] == "present":
+                    excluded = in_conflict(p, self.packages[m[1] - 1], self.arch)
+                else:
+                    excluded = any(self.is_matched(atom, m) for atom in p["conflicts"])
+                if excluded:
+                    clauses.append([-own, -v])
+        return clauses
+
+    def is_future(self, members):
+        return all(any((l > 0) == (abs(l) in members) for l in clause) for clause in self.of_future + self.of_now)
+
+    def installation(self, members):
+        """The packages of a set that stands for a future, as the future has them."""
+        chosen = []
+        for v in sorted(members):
+            meaning = self.meanings[v]
+            if meaning[0] == "present":
+                chosen.append(self.packages[meaning[1] - 1])
+            elif meaning[0] in ("new", "fresh"):
+                text = self.example(meaning)
+                package = {"name": self.name_of(meaning), "text": text, "version": read_version(text)[0], "items": [], "conflicts": [], "provides": [],
+                           "essential": False}
+                for number in sorted(members):
+                    kept = self.meanings[number]
+                    if meaning[0] == "new" and kept[:4] == ("kept",) + meaning[1:]:
+                        old = self.packages[meaning[1] - 1]
+                        entry = old["provides"][kept[4]]
+                        moved = ("=", text, package["version"]) if has_own_version(entry, old) else entry[2]
+                        package["provides"].append((entry[0], entry[1], moved))
+                chosen.append(package)
+        return chosen
+
+    def is_covered(self, c, k, installations):
+        """Whether one of some sets says nothing against a class of a cluster: it uses nothing of the cluster, or has it at that class."""
+        return any(self.number["at", c, k] in members or not self.using[c] & members for members in installations)
 
 # ---- clauses and derivations (CERTIFICATES, "What the lines before a line hold") ----
 
@@ -493,13 +715,47 @@ def read_record(line):
 
 # ---- acceptance (CERTIFICATES, "Claims" and "Faults") ----
 
+class Subject:
+    """What a certificate of a kind and a mode is about."""
+
+    def __init__(self, all_packages, arch, kind, essential):
+        self.kind, self.arch, self.essential = kind, arch, essential
+        self.packages = all_packages if kind == "strong" else newest(all_packages)
+        self.space = None if kind == "strong" else Space(self.packages, arch, essential)
+        self.inputs = self.space.clauses if self.space else present_clauses(self.packages, arch, essential)
+        self.variables = len(self.space.meanings) - 1 if self.space else len(self.packages)
+        self.faults = {}             # of installations looked at
+
+    def variable(self, package):
+        return package if self.kind == "strong" else package + 1
+
+    def question(self, package):
+        return (1, package + 1) if self.kind == "challenged" else (self.variable(package),)
+
+    def fault_of_installation(self, members):
+        key = tuple(members)
+        if key not in self.faults:
+            self.faults[key] = self.judge_installation(members)
+        return self.faults[key]
+
+    def judge_installation(self, members):
+        if self.space is None:
+            return None if is_healthy(members, self.packages, self.arch, self.essential) else "NotAnInstallation"
+        members = set(members)
+        if not self.space.is_future(members):
+            return "NotAFuture"
+        chosen = self.space.installation(members)
+        return None if is_healthy_list(chosen, self.packages, self.arch, self.essential) else "NotAnInstallation"
+
+LETTERS = {"strong": "xys", "outdated": "oay", "challenged": "xyc"}
+
 class State:
     """What the lines before a line hold."""
 
-    def __init__(self, packages, arch, essential, limit, inputs):
-        self.packages, self.arch, self.essential, self.limit = packages, arch, essential, limit
-        self.inputs = inputs
-        self.clauses = list(inputs)
+    def __init__(self, subject, limit):
+        self.subject, self.limit = subject, limit
+        self.inputs = subject.inputs
+        self.clauses = list(self.inputs)
         self.derived_literals = 0
         self.installations = []      # all, as sets
         self.claims = []             # (letter, first list, second list)
@@ -509,25 +765,29 @@ class State:
         self.undecided = set()       # and by u
         self.group = []              # numbers of the installations of the group
 
+    def is_recent_with(self, number, variable):
+        total = len(self.installations)
+        return total - RECENT < number <= total and variable in self.installations[number - 1]
+
+    def of_claim(self, named, variable):
+        """The installations of a claim."""
+        numbers = set(named) | {n for n in self.group if variable in self.installations[n - 1]}
+        return [self.installations[n - 1] for n in numbers]
+
+def rises(items):
+    return all(a < b for a, b in zip(items, items[1:]))
+
 def rules_of_strong(state, record):
     """WrongClaim, Incomplete or None of an `s` line."""
     package, named, first, second = record
-    total = len(state.installations)
-    for number in named:
-        if number > total or number <= total - RECENT or package not in state.installations[number - 1]:
-            return "WrongClaim"
+    if not all(state.is_recent_with(number, package) for number in named):
+        return "WrongClaim"
     for part in (first, second):
-        if any(a >= b for a, b in zip(part, part[1:])):
-            return "WrongClaim"
-        if any(q == package or q > len(state.packages) for q in part):
+        if not rises(part) or any(q == package or q > len(state.subject.packages) for q in part):
             return "WrongClaim"
     if set(first) & set(second):
         return "WrongClaim"
-    its = set(named) | {n for n in state.group if package in state.installations[n - 1]}
-    common = None
-    for number in its:
-        members = state.installations[number - 1]
-        common = set(members) if common is None else common & members
+    common = set.intersection(*map(set, state.of_claim(named, package)))
     if any((package, -q) not in state.refuted for q in first):
         return "WrongClaim"
     if any((package, -q) not in state.undecided or q not in common for q in second):
@@ -536,11 +796,46 @@ def rules_of_strong(state, record):
         return "Incomplete"
     return None
 
+def rules_of_challenged(state, record):
+    """WrongClaim, Incomplete or None of a `c` line."""
+    package, named, first, second = record
+    space, variable = state.subject.space, package + 1
+    if not all(state.is_recent_with(number, variable) for number in named):
+        return "WrongClaim"
+    its = state.of_claim(named, variable)
+    if not any(1 in members for members in its):
+        return "WrongClaim"
+    lists = [list(zip(part[::2], part[1::2])) for part in (first, second)]
+    if not all(map(rises, lists)) or set(lists[0]) & set(lists[1]):
+        return "WrongClaim"
+    others = {(c, k) for c, members in enumerate(space.clusters, 1) if package not in members for k in range(1, len(space.classes[c - 1]) + 1)}
+    if not set(lists[0] + lists[1]) <= others:
+        return "WrongClaim"
+    question = lambda pair: (variable, space.number["at", pair[0] - 1, pair[1] - 1])
+    is_covered = lambda pair: space.is_covered(pair[0] - 1, pair[1] - 1, its)
+    if any(question(pair) not in state.refuted for pair in lists[0]):
+        return "WrongClaim"
+    if any(question(pair) not in state.undecided or is_covered(pair) for pair in lists[1]):
+        return "WrongClaim"
+    if not all(map(is_covered, others - set(lists[0] + lists[1]))):
+        return "Incomplete"
+    return None
+
+def fault_of_claim(state, letter, record):
+    subject = state.subject
+    if letter not in LETTERS[subject.kind]:
+        return "WrongClaim"
+    if letter in "xoy":
+        return None if subject.question(record[0]) in (state.undecided if letter == "y" else state.refuted) else "WrongClaim"
+    if letter == "a":
+        return None if state.is_recent_with(record[1], subject.variable(record[0])) else "WrongClaim"
+    return (rules_of_strong if letter == "s" else rules_of_challenged)(state, record)
+
 def fault_of_record(state, letter, record):
     """The first cause that applies to a line that has its form, or None."""
-    total = len(state.packages)
+    total = len(state.subject.packages)
     variables = {"q": record, "m": record, "d": record[0] if letter == "d" else []}.get(letter, [])
-    if any(abs(l) > total for l in variables):
+    if any(abs(l) > state.subject.variables for l in variables):
         return "OutOfRange"
     if letter in "fu" and state.question is None:
         return "OutOfOrder"
@@ -553,8 +848,8 @@ def fault_of_record(state, letter, record):
         start = [-l for l in record[0]] if letter == "d" else state.question
         if not follows(start, hints, state.clauses):
             return "BadLine"
-    if letter == "m" and not is_healthy(record, state.packages, state.arch, state.essential):
-        return "NotAnInstallation"
+    if letter == "m":
+        return state.subject.fault_of_installation(record)
     if letter == "u":
         if len(state.since) < state.limit:
             return "LimitNotReached"
@@ -562,14 +857,10 @@ def fault_of_record(state, letter, record):
         for number in state.since:
             if not is_new(state.clauses[number - 1], state.question, state.clauses[:number - 1], inside):
                 return "NotNew"
-    if letter in "oac":
-        return "WrongClaim"
-    if letter in "xy":
-        closed = state.refuted if letter == "x" else state.undecided
-        if (record[0],) not in closed:
-            return "WrongClaim"
-    if letter == "s":
-        return rules_of_strong(state, record)
+        # Each new clause leaves out an assignment of the cone that all before it allow.
+        assert state.limit <= 3 ** len(inside), "more new lines than there can be"
+    if letter in "xysoac":
+        return fault_of_claim(state, letter, record)
     if letter == "e" and len(state.claims) < total:
         return "Incomplete"
     return None
@@ -592,18 +883,19 @@ def take_record(state, letter, record):
         (state.refuted if letter == "f" else state.undecided).add(tuple(state.question))
         state.question = None
     elif letter != "e":
-        lists = (record[2], record[3]) if letter == "s" else ([], [])
-        state.claims.append((letter,) + lists)
+        lists = {"s": lambda: (record[2], record[3]), "c": lambda: tuple(list(zip(part[::2], part[1::2])) for part in record[2:])}
+        state.claims.append((letter,) + lists.get(letter, lambda: ([], []))())
         state.question, state.group = None, []
         state.refuted, state.undecided = set(), set()
 
-def judge(data, packages, arch):
-    """The limit of the first line, and the claims; or an End is raised."""
+def judge(data, packages, arch, subjects=None):
+    """The subject, the limit of the first line, and the claims; or an End is raised. subjects: those made already, by kind and mode."""
     state, at, number, ended = None, 0, 0, False
+    subjects = {} if subjects is None else subjects
     while True:
         number += 1
         if at == len(data) and ended:
-            return state.limit, state.claims
+            return state.subject, state.limit, state.claims
         stop = data.find(b"\n", at)
         if (len(data) if stop < 0 else stop) - at >= LINE_LIMIT:
             raise refused(number, "LineTooLong")
@@ -612,13 +904,14 @@ def judge(data, packages, arch):
         line, at = data[at:stop], stop + 1
         if number == 1:
             header = read_header(line)
-            if header is None or header[0] != "strong":
+            if header is None:
                 raise refused(1, "BadHeader")
-            essential = header[1] == "essential"
-            inputs = present_clauses(packages, arch, essential)
-            if header[3:] != (len(packages), len(packages), len(inputs)):
+            if header[:2] not in subjects:
+                subjects[header[:2]] = Subject(packages, arch, header[0], header[1] == "essential")
+            subject = subjects[header[:2]]
+            if header[3:] != (len(subject.packages), subject.variables, len(subject.inputs)):
                 raise refused(1, "BadHeader")
-            state = State(packages, arch, essential, header[2], inputs)
+            state = State(subject, header[2])
             continue
         parsed = None if ended else read_record(line)
         if parsed is None:
@@ -631,12 +924,17 @@ def judge(data, packages, arch):
 
 # ---- the report (README, "A small run"; DEFINITIONS, "Reports") ----
 
-def report(packages, limit, claims):
-    def label(k):
-        return '"%s=%s"' % (packages[k - 1]["name"].decode("latin-1"), packages[k - 1]["text"].decode("latin-1"))
+def label(package):
+    return '"%s=%s"' % (package["name"].decode("latin-1"), package["text"].decode("latin-1"))
+
+def quoted(text):
+    return '"%s"' % text.decode("latin-1")
+
+def report(subject, limit, claims):
+    packages = subject.packages
 
     def plain(key, numbers):
-        return [key + ":"] + ["  - " + label(k) for k in numbers] if numbers else [key + ": []"]
+        return [key + ":"] + ["  - " + label(packages[k - 1]) for k in numbers] if numbers else [key + ": []"]
 
     def paired(key, inner, rows):
         rows = [(k, others) for k, others in rows if others]
@@ -644,30 +942,74 @@ def report(packages, limit, claims):
             return [key + ": []"]
         lines = [key + ":"]
         for k, others in rows:
-            lines += ["  - package: " + label(k), "    " + inner + ":"] + ["      - " + label(j) for j in others]
+            lines += ["  - package: " + label(packages[k - 1]), "    " + inner + ":"]
+            lines += ["      - " + label(packages[j - 1]) for j in others]
         return lines
 
-    strong = [(k, claim[1]) for k, claim in enumerate(claims, 1)]
-    impact = [(k, [j for j, others in strong if k in others]) for k in range(1, len(packages) + 1)]
-    lines = ['report: "strong"', "limit: %d" % limit, "packages: %d" % len(packages)]
-    lines += plain("uninstallable", [k for k, c in enumerate(claims, 1) if c[0] == "x"])
-    lines += paired("strong", "on", strong)
-    lines += paired("impact", "of", impact)
-    lines += plain("undecided", [k for k, c in enumerate(claims, 1) if c[0] == "y"])
-    lines += paired("undecided_pairs", "on", [(k, c[2]) for k, c in enumerate(claims, 1)])
+    def by_class(key, place):
+        lines = []
+        for c, members in enumerate(subject.space.clusters, 1):
+            for k, cls in enumerate(subject.space.classes[c - 1], 1):
+                its = [p for p, claim in enumerate(claims, 1) if (c, k) in claim[place]]
+                if its:
+                    lines += ["  - cluster: " + label(packages[members[0] - 1]), "    class: " + quoted(class_text(cls)),
+                              "    example: " + quoted(example_of(cls)), "    breaks:"]
+                    lines += ["      - " + label(packages[p - 1]) for p in its]
+        return [key + ":"] + lines if lines else [key + ": []"]
+
+    of = lambda letter: [k for k, claim in enumerate(claims, 1) if claim[0] == letter]
+    lines = ['report: "%s"' % subject.kind, "limit: %d" % limit, "packages: %d" % len(packages)]
+    if subject.kind == "strong":
+        strong = [(k, claim[1]) for k, claim in enumerate(claims, 1)]
+        impact = [(k, [j for j, others in strong if k in others]) for k in range(1, len(packages) + 1)]
+        lines += plain("uninstallable", of("x")) + paired("strong", "on", strong) + paired("impact", "of", impact)
+        lines += plain("undecided", of("y")) + paired("undecided_pairs", "on", [(k, c[2]) for k, c in enumerate(claims, 1)])
+    elif subject.kind == "outdated":
+        lines += plain("outdated", of("o")) + plain("undecided", of("y"))
+    else:
+        lines += plain("uninstallable", of("x")) + by_class("challenged", 1) + plain("undecided", of("y")) + by_class("undecided_classes", 2)
     return "".join(line + "\n" for line in lines)
+
+def classes_report(packages, arch):
+    """What `classes` prints of the newest of each name."""
+    space = Space(newest(packages), arch, False)
+    lines = ['report: "classes"', "packages: %d" % len(space.packages)]
+
+    def classes(its):
+        lines.append("    classes:")
+        for cls in its:
+            lines.extend(["      - class: " + quoted(class_text(cls)), "        example: " + quoted(example_of(cls))])
+
+    lines.append("clusters:" if space.clusters else "clusters: []")
+    for members, top, its in zip(space.clusters, space.tops, space.classes):
+        least = space.packages[members[0] - 1]
+        lines += ["  - cluster: " + label(least), "    source: " + quoted(least["source"][0]), "    top: " + quoted(top), "    members:"]
+        lines += ["      - " + label(space.packages[k - 1]) for k in members]
+        classes(its)
+    lines.append("names:" if space.names else "names: []")
+    for name, its in zip(space.names, space.name_classes):
+        lines.append("  - name: " + quoted(name))
+        classes(its)
+    return "".join(line + "\n" for line in lines)
+
+def check_read(packages, arch, cert_data, subjects=None):
+    """(status, standard output, standard error, the accepted (subject, limit, claims) or None) over packages that are read."""
+    try:
+        accepted = judge(cert_data, packages, arch, subjects)
+    except End as end:
+        return end.status, end.out, end.err, None
+    marked = any(c[0] == "y" or c[2] for c in accepted[2])
+    return (1 if marked else 0), report(*accepted), "", accepted
 
 def check_bytes(packages_data, cert_data):
     """(status, standard output, standard error) of two files; cert_data None where it can't be read."""
     try:
         packages, arch = read_packages(packages_data)
-        if cert_data is None:
-            return 5, "", "distfuture: read fault\n"
-        limit, claims = judge(cert_data, packages, arch)
     except End as end:
         return end.status, end.out, end.err
-    marked = any(c[0] == "y" or c[2] for c in claims)
-    return (1 if marked else 0), report(packages, limit, claims), ""
+    if cert_data is None:
+        return 5, "", "distfuture: read fault\n"
+    return check_read(packages, arch, cert_data)[:3]
 
 def read_file(name):
     try:

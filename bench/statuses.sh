@@ -80,35 +80,116 @@ wants 8 '' 'distfuture: too large: Bytes' health long both
 wants 9 'unmet a=1: b' '' health packages alone
 wants 10 '' 'distfuture: bad list at line 1' health packages unknown
 
-# Standard output that takes nothing.
-got=0
-"$program" health packages both >/dev/full 2>err || got=$?
-if [ "$got" != 6 ] || [ "$(cat err)" != 'distfuture: write fault' ]; then
-    echo "wrong: a full output ended with $got and told '$(cat err)'"
-    failed=1
-fi
-# Standard output that is closed takes nothing either, and no file is taken for it: CERT is as with an open one.
-got=0
-"$program" health packages both >&- 2>err || got=$?
-if [ "$got" != 6 ] || [ "$(cat err)" != 'distfuture: write fault' ]; then
-    echo "wrong: a closed output ended with $got and told '$(cat err)'"
-    failed=1
-fi
-got=0
-"$program" strong packages apart >&- 2>err || got=$?
-if [ "$got" != 6 ] || [ "$(cat err)" != 'distfuture: write fault' ] || ! cmp -s cert apart; then
-    echo "wrong: strong with a closed output ended with $got and told '$(cat err)', or its certificate is another"
-    failed=1
-fi
-# Standard error that takes nothing, or is closed, leaves the status as it is.
-got=0
-"$program" health bad both 2>/dev/full || got=$?
-[ "$got" = 3 ] || { echo "wrong: with a full standard error the status was $got"; failed=1; }
-got=0
-"$program" health bad both >out 2>&- || got=$?
-if [ "$got" != 3 ] || [ -s out ]; then
-    echo "wrong: with a closed standard error the status was $got, and it printed '$(cat out)'"
-    failed=1
-fi
+# Memory that is too small for the file.
+{ printf 'Package: a\nVersion: 1\nDescription: ' && head -c 24000000 /dev/zero | tr '\0' x && echo; } >wide
+for words in 'classes wide' 'strong wide never' 'outdated wide never' 'challenged wide never' 'check wide cert' 'health wide alone'; do
+    got=0
+    (ulimit -v 24000 && exec "$program" $words >out 2>err) || got=$?
+    if [ "$got" != 7 ] || [ "$(cat err)" != 'distfuture: no memory' ] || [ -s out ] || [ -e never ]; then
+        echo "wrong: $words with little memory ended with $got and told '$(cat err)'"
+        failed=1
+    fi
+done
+
+# A certificate of each kind and mode, and what its command prints.
+for kind in strong outdated challenged; do
+    for mode in '' ' --essential'; do
+        "$program" $kind packages "of $kind$mode" $mode >"report of $kind$mode"
+        "$program" check packages "of $kind$mode" | cmp -s - "report of $kind$mode" || { echo "wrong: check of $kind$mode"; failed=1; }
+    done
+done
+"$program" health packages both >'report of health'
+"$program" classes packages >'report of classes'
+"$program" try --size 2 --seed 0 >'report of try'
+
+# Runs a program with a pipe that nobody reads in the place of a stream, and without what Python does about the signal of such.
+broken='import os, signal, sys
+signal.signal(signal.SIGPIPE, signal.SIG_DFL)
+reader, writer = os.pipe()
+os.close(reader)
+os.dup2(writer, int(sys.argv[1]))
+os.execv(sys.argv[2], sys.argv[2:])'
+python=$(python3 -c 'import sys; print(sys.executable)')
+
+# with STREAM HOW WORDS..: the status in $got, with standard output (1) or error (2) that is full, closed, or a pipe that nobody reads.
+with() {
+    stream=$1 how=$2
+    shift 2
+    got=0
+    : >out
+    : >err
+    case $stream$how in
+    1full) "$program" "$@" >/dev/full 2>err || got=$? ;;
+    1closed) "$program" "$@" >&- 2>err || got=$? ;;
+    1broken) "$python" -c "$broken" 1 "$program" "$@" 2>err || got=$? ;;
+    2full) "$program" "$@" >out 2>/dev/full || got=$? ;;
+    2closed) "$program" "$@" >out 2>&- || got=$? ;;
+    2broken) "$python" -c "$broken" 2 "$program" "$@" >out || got=$? ;;
+    esac
+}
+
+# Standard output that takes nothing is a write fault of each command. The certificate is whole, and no file is taken for a closed stream.
+for how in full closed broken; do
+    for kind in strong outdated challenged; do
+        for mode in '' ' --essential'; do
+            rm -f apart
+            with 1 $how $kind packages apart $mode
+            if [ "$got" != 6 ] || [ "$(cat err)" != 'distfuture: write fault' ] || ! cmp -s "of $kind$mode" apart; then
+                echo "wrong: $kind$mode with a $how output ended with $got and told '$(cat err)', or its certificate is another"
+                failed=1
+            fi
+            cp "of $kind$mode" apart
+            with 1 $how check packages apart
+            if [ "$got" != 6 ] || [ "$(cat err)" != 'distfuture: write fault' ] || ! cmp -s "of $kind$mode" apart; then
+                echo "wrong: check of $kind$mode with a $how output ended with $got and told '$(cat err)', or it changed its file"
+                failed=1
+            fi
+        done
+    done
+    for words in 'health packages both' 'health packages alone' 'classes packages' 'try --size 2 --seed 0'; do
+        with 1 $how $words
+        if [ "$got" != 6 ] || [ "$(cat err)" != 'distfuture: write fault' ]; then
+            echo "wrong: $words with a $how output ended with $got and told '$(cat err)'"
+            failed=1
+        fi
+    done
+done
+
+# A certificate that takes nothing: nothing is printed.
+for kind in strong outdated challenged; do
+    for mode in '' '--essential'; do
+        wants 6 '' 'distfuture: write fault' $kind packages /dev/full $mode
+    done
+done
+
+# Standard error that takes nothing leaves the status as it is, and what is printed.
+for how in full closed broken; do
+    for row in '3 health bad both' '3 classes bad' '3 strong bad never' '3 outdated bad never' '3 challenged bad never' '3 check bad cert' '2 try --size 2' '2' \
+        '4 check packages cut' '5 strong missing never' '6 outdated packages missing/cert' '8 health long both' '10 health packages unknown'; do
+        set -- $row
+        wanted=$1
+        shift
+        with 2 $how "$@"
+        if [ "$got" != "$wanted" ] || [ -s out ] || [ -e never ]; then
+            echo "wrong: $* with a $how standard error ended with $got, and printed '$(cat out)'"
+            failed=1
+        fi
+    done
+    # What has nothing to tell does not care.
+    for name in strong outdated challenged; do
+        with 2 $how $name packages apart
+        if [ "$got" != 0 ] || ! cmp -s out "report of $name" || ! cmp -s apart "of $name"; then
+            echo "wrong: $name with a $how standard error ended with $got"
+            failed=1
+        fi
+    done
+    for row in 'health packages both' 'classes packages' 'try --size 2 --seed 0'; do
+        with 2 $how $row
+        if [ "$got" != 0 ] || ! cmp -s out "report of ${row%% *}"; then
+            echo "wrong: $row with a $how standard error ended with $got"
+            failed=1
+        fi
+    done
+done
 [ "$failed" = 0 ] && echo 'each status as it should be'
 exit "$failed"

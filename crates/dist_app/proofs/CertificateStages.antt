@@ -6,7 +6,7 @@ use Rattle.dist_repo.specs.PackageList.{PackageList}
 use Rattle.dist_cert.specs.declared.records.Claim.{Claim}
 use Rattle.dist_cert.specs.declared.records.Header.{Header}
 use Rattle.dist_check.specs.Answers.{Answers, AcceptedMeans}
-use Rattle.dist_check.specs.Checking.{OfText}
+use Rattle.dist_judge.specs.Judging.{OfText}
 use Rattle.dist_check.specs.declared.verdict.Verdict.TheVariants.{Accepted}
 use Rattle.dist_app.specs.Check.{CertificateStage, Reports}
 use Rattle.dist_app.specs.Claims.{IsReportOf, claims_status}

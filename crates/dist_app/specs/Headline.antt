@@ -24,7 +24,7 @@ use Rattle.dist_subject.specs.Completed.{IsCompleted}
 use Rattle.dist_subject.specs.Basis.{Basis, matter_of}
 use Rattle.dist_sweep.specs.Sweep.{IsSweep}
 use Rattle.dist_check.specs.Answers.{AcceptedMeans}
-use Rattle.dist_check.specs.Checking.{OfText}
+use Rattle.dist_judge.specs.Judging.{OfText}
 use Rattle.dist_check.specs.Means.{Means}
 use Rattle.dist_history.specs.PlanText.{misfit_text, plan_text}
 use Rattle.dist_words.specs.CommandLine.{Sweep, Check, Steps}

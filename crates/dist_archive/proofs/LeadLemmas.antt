@@ -97,15 +97,15 @@ exactly-same archive P Q same has = record {
 pub exactly-itself : (archive : List Package) → IsFlat archive → HasExactly archive (Contains archive)
 exactly-itself archive flat = record { one_of_a_name = flat; exact = λ n. ((λ there. there), λ there. there) }
 
-held-same : (old other : List Package) (name : List ℕ) → AreSame old other → IsHeld old name → IsHeld other name
+pub held-same : (old other : List Package) (name : List ℕ) → AreSame old other → IsHeld old name → IsHeld other name
 held-same old other name same held =
     let at = found-at (λ (n : Package). n.name ≡ name) old held in
     any-contained (λ (n : Package). n.name ≡ name) other at.element ((same at.element).0 (contains-at old at.place at.element at.is)) at.holds
 
-same-back : (old other : List Package) → AreSame old other → AreSame other old
+pub same-back : (old other : List Package) → AreSame old other → AreSame other old
 same-back old other same n = ((same n).1, (same n).0)
 
-makes-same : (s : SpaceView) (step : Step) (old other new : List Package) → AreSame old other → Makes s step old new → Makes s step other new
+pub makes-same : (s : SpaceView) (step : Step) (old other new : List Package) → AreSame old other → Makes s step old new → Makes s step other new
 makes-same s (Upload cluster version block) old other new same makes =
     let r = s.repository in
     let c : Package = makes.0 in

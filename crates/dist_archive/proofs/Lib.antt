@@ -20,3 +20,5 @@ pub mod FoundLemmas
 pub mod PlanningLemmas
 pub mod TakenLemmas
 pub mod ReachLemmas
+pub mod MovedLemmas
+pub mod GrowLemmas

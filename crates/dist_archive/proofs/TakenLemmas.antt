@@ -95,7 +95,7 @@ module _ (s : SpaceView) (frame : IsFrame s) where
     λ there. (first.exact n).1 ((same n).1 ((second.exact n).0 there)),
   )
 
-  made-same : (step : Step) (old new other : List Package) → Makes s step old new → Makes s step old other → AreSame new other
+  pub made-same : (step : Step) (old new other : List Package) → Makes s step old new → Makes s step old other → AreSame new other
   made-same (Upload cluster version block) old new other first second =
       let c : Package = first.0 in
       let d : Package = second.0 in

@@ -11,3 +11,5 @@ pub mod Reach
 pub mod FoundPrivate
 pub mod PlanningPrivate
 pub mod ReachExamples
+pub mod Moved
+pub mod MovedPrivate

@@ -10,7 +10,7 @@ use Rattle.dist_classes.specs.NewVersion.{IsNewOf, IsOfNewName}
 use Rattle.dist_space.specs.Space.{SpaceView}
 use Rattle.dist_future.specs.Future.{IsAboveCluster, IsProvided, IsTaken}
 use Rattle.dist_archive.specs.Refusals.{Refuses}
-use Rattle.dist_archive.specs.Steps.{HasExactly, IsClusterName, IsHeld, IsOfCluster, Makes}
+use Rattle.dist_archive.specs.Steps.{HasExactly, IsClusterName, IsHeld, IsOfCluster, Lead, Makes}
 use Rattle.dist_archive.specs.declared.step.Step.{Step}
 use Rattle.dist_archive.specs.declared.step.Step.TheVariants.{Upload, Removal, NewName}
 use Rattle.dist_archive.specs.declared.step.StepError.{StepError}
@@ -103,3 +103,9 @@ abbrev pub AreTaken : SpaceView → List Step → (old new : List Package) → T
 AreTaken s [] old new = HasExactly new (Contains old)
 AreTaken s (step ∷ steps) old new = ((error : StepError) → ¬ Refuses s old step error)
     × ((next : List Package) → Makes s step old next → AreTaken s steps next new)
+
+-- Steps are made, one after another: they lead from one archive to another one, and none of them is refused where it
+-- comes.
+pub record AreMade (s : SpaceView) (steps : List Step) (old new : List Package) : Type 0 where
+  pub lead : Lead s steps old new
+  pub taken : AreTaken s steps old new

@@ -1,14 +1,16 @@
 //! Laws of steps, apart from the work. The functions do nothing.
-ghost use Rattle.std.specs.Prelude.{◌↔◌, ◌<◌, Bool, ℕ, List, length};
+ghost use Rattle.std.specs.Prelude.{◌↔◌, ◌<◌, Bool, ℕ, List, [], ◌∷◌, ◌++◌, length};
 ghost use Rattle.dist_repo.specs.declared.package.Package.{Package};
 ghost use Rattle.dist_repo.specs.Order.{IsFlat};
 ghost use Rattle.dist_repo.specs.PackageList.{IsPackageAnd};
 ghost use Rattle.dist_space.specs.Space.{IsSpace, SpaceView};
 ghost use Rattle.dist_future.specs.Future.{IsFuture};
 ghost use Rattle.dist_future.specs.Outdated.{Challenges, HoldsCluster, IsInstallableIn};
-ghost use Rattle.dist_archive.specs.Reach.{AreTaken, Fits, IsPlan};
+ghost use Rattle.dist_archive.specs.Reach.{AreMade, AreTaken, Fits, IsPlan};
+ghost use Rattle.dist_archive.specs.Refusals.{Refuses};
 ghost use Rattle.dist_archive.specs.Steps.{IsReached, Lead, Makes};
 ghost use Rattle.dist_archive.specs.declared.step.Step.{Step};
+ghost use Rattle.dist_archive.specs.declared.step.StepError.{StepError};
 
 /// What steps reach from a repository is one of its futures, and stays one in every further list of steps.
 pub fn steps_reach_futures()
@@ -29,6 +31,13 @@ pub fn futures_are_reached()
         → AreTaken s steps s.repository.packages later }
     ensures fits { (s : SpaceView) (later : List Package) → IsSpace s → IsFlat later → IsFuture s.repository later
         ↔ ((number : ℕ) → number < length later → IsPackageAnd later number (Fits s.repository later number)) }
+{}
+
+/// Lists of steps that are made grow by a step that no reason refuses.
+pub fn lists_of_steps_grow()
+    ensures none { (s : SpaceView) (archive : List Package) → IsFlat archive → AreMade s [] archive archive }
+    ensures more { (s : SpaceView) (steps : List Step) (step : Step) (old middle new : List Package) → IsSpace s
+        → AreMade s steps old middle → ((error : StepError) → ¬ Refuses s middle step error) → Makes s step middle new → AreMade s (steps ++ step ∷ []) old new }
 {}
 
 /// A version that challenges a package breaks it after every further list of steps at whose end the archive holds the cluster at

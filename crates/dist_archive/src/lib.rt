@@ -12,6 +12,7 @@ mod carried;
 mod finding;
 mod fitting;
 mod laws;
+mod moved;
 mod new_names;
 mod plan;
 mod planning;
@@ -21,7 +22,9 @@ mod step;
 mod uploads;
 
 pub use archive::{Archive, start};
-pub use laws::{challenges_hold_after_steps, futures_are_reached, steps_reach_futures};
+pub use laws::{
+    challenges_hold_after_steps, futures_are_reached, lists_of_steps_grow, steps_reach_futures,
+};
 pub use plan::{Plan, ReachError};
 pub use reaching::reach;
 pub use step::{Step, StepError};

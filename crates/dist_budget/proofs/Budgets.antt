@@ -17,7 +17,8 @@ use Rattle.dist_cert.specs.declared.records.Header.{Header}
 use Rattle.dist_cert.specs.Form.{header_text, record_text}
 use Rattle.dist_cert.specs.Groups.{derived, claim_count}
 use Rattle.dist_cert.specs.Part.{IsStoppedBy, Passes}
-use Rattle.dist_cert.specs.Refusal.{lines_text, certificate_text}
+use Rattle.dist_cert.specs.FileLines.{lines_text}
+use Rattle.dist_cert.specs.Refusal.{certificate_text}
 use Rattle.dist_cert.specs.Subject.{Matter}
 use Rattle.dist_cert.specs.Writing.{ended}
 use Rattle.dist_subject.specs.Basis.{Basis, IsBasisOf, matter_of}

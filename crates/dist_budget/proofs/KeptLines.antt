@@ -9,11 +9,12 @@ use Rattle.dist_cert.specs.declared.records.CertRecord.{CertRecord}
 use Rattle.dist_cert.specs.declared.records.CertRecord.TheVariants.{End}
 use Rattle.dist_cert.specs.declared.records.Header.{Header}
 use Rattle.dist_cert.specs.ByRecordsLaws.{record_to_line}
-use Rattle.dist_cert.specs.ClearFormsLaws.{FormsAreClear}
+use Rattle.dist_cert.specs.ClearFormsLaws.{FormsAreClear, clear_records, of_records}
 use Rattle.dist_cert.specs.Form.{record_text, HasForm}
 use Rattle.dist_cert.specs.LineRules.{HasRecordFault}
 use Rattle.dist_cert.specs.Part.{IsNextLine, IsPartOf}
-use Rattle.dist_cert.specs.Refusal.{lines_text, HasLineFault}
+use Rattle.dist_cert.specs.FileLines.{lines_text}
+use Rattle.dist_cert.specs.Refusal.{HasLineFault}
 use Rattle.dist_cert.specs.Subject.{Matter}
 use Rattle.dist_cert.specs.GroupLaws.{all-at}
 
@@ -42,7 +43,8 @@ part-kept clear matter limits h text steps part before step after is =
           (record_text step, lines_text after, record { ended = begins; one_line = clear.record_line step form }, inl ended)).0;
       faultless = λ cause fault.
           let same = part.later before step after is cause (subst (λ (t : List ℕ). HasLineFault matter limits h before t cause) (sym begins)
-          (record_to_line clear matter limits h before step (lines_text after) form cause fault)) in
+          (record_to_line (clear_records clear) (HasRecordFault matter h) limits before step (lines_text after) form (of_records matter h before step) cause
+          fault)) in
           subst (λ (c : CertCause). HasRecordFault matter h before step c) same.0 fault;
       next = part.next before step after is;
     }

@@ -20,7 +20,7 @@ use Rattle.dist_cert.specs.Form.{HasHeaderForm, KeepsRules, pair_words}
 use Rattle.dist_clause.specs.Formula.{Literal, literal}
 use Rattle.dist_cert.specs.Groups.{clause_of, derived, derived_in, installations, is_claim}
 use Rattle.dist_cert.specs.Part.{IsQuestionOn}
-use Rattle.dist_cert.specs.Refusal.{lines_text}
+use Rattle.dist_cert.specs.FileLines.{lines_text}
 use Rattle.dist_cert.specs.Subject.{Matter}
 use Rattle.dist_cert.specs.Writing.{ended}
 use Rattle.dist_budget.specs.Budget.{pair_count, record_budget}

@@ -16,7 +16,7 @@ use Rattle.dist_cert.specs.declared.lines.Reached.{Reached}
 use Rattle.dist_cert.specs.declared.lines.Reached.TheVariants.{Feed, File, Within}
 use Rattle.dist_cert.specs.declared.records.CertRecord.{CertRecord}
 use Rattle.dist_cert.specs.declared.records.Header.{Header}
-use Rattle.dist_cert.specs.Refusal.{IsOneLine, BeginsWith, IsTooLong}
+use Rattle.dist_cert.specs.FileLines.{IsOneLine, BeginsWith, IsTooLong}
 use Rattle.dist_cert.specs.Reading.{ReaderView, in_front, text_left, WhereTold, PassesWhole, KeepsLimits, HeaderAnswers, RecordAnswers}
 use Rattle.dist_cert.specs.Reading.{HeaderOfSome, RecordOfSome}
 use Rattle.dist_cert.specs.FirstLine.{IsLineNext, FirstAnswers, FirstOfSome}

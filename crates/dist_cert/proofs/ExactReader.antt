@@ -13,7 +13,7 @@ use Rattle.dist_cert.specs.declared.records.CertRecord.{CertRecord}
 use Rattle.dist_cert.specs.declared.records.Header.{Header}
 use Rattle.dist_cert.specs.Form.{HasForm, HasHeaderForm}
 use Rattle.dist_cert.specs.OneVerdictLaws.{one_line}
-use Rattle.dist_cert.specs.Refusal.{IsOneLine, BeginsWith}
+use Rattle.dist_cert.specs.FileLines.{IsOneLine, BeginsWith}
 use Rattle.dist_cert.specs.Reading.{ReaderView, PassesWhole, IsHeaderNext, HeaderFault, HeaderAnswers, IsRecordNext, IsAtEnd, RecordFault, RecordAnswers}
 use Rattle.dist_cert.specs.ReadBackLaws.{IsGiven}
 use Rattle.dist_cert.specs.ByRecordsLaws.{whole_line}

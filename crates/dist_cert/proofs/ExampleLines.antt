@@ -19,7 +19,7 @@ use Rattle.dist_cert.specs.Subject.{Matter}
 use Rattle.dist_cert.specs.Groups.{clause_of, numbered, claim_count, IsOpen}
 use Rattle.dist_cert.specs.GroupLaws.{one-open}
 use Rattle.dist_cert.specs.ClaimRules.{HoldsClaim, OmitsPackage, OmitsPair}
-use Rattle.dist_cert.specs.Refusal.{in_order, IsFirstOf}
+use Rattle.dist_cert.specs.FileLines.{in_order, IsFirstOf}
 use Rattle.dist_cert.specs.LineRules.{variables_of, IsNoFuture, HasRecordFault}
 use Rattle.dist_cert.specs.ByRecordsLaws.{IsSound, AreSound}
 use Rattle.dist_cert.proofs.ExampleTests.{all-by, all_pairs, pairs-by}

@@ -7,7 +7,8 @@ use Rattle.dist_cert.specs.declared.faults.CertCause.TheVariants as causes
 use Rattle.dist_cert.specs.declared.records.CertRecord.TheVariants.{Question, Refuted, Installation, End}
 use Rattle.dist_cert.specs.Form.{IsSmall, record_text}
 use Rattle.dist_cert.specs.ClaimRules.{yes, no}
-use Rattle.dist_cert.specs.Refusal.{lines_text, certificate_text, Refusal}
+use Rattle.dist_cert.specs.FileLines.{lines_text}
+use Rattle.dist_cert.specs.Refusal.{certificate_text, Refusal}
 use Rattle.dist_cert.specs.ByRecordsLaws.{refused_by_record}
 use Rattle.dist_cert.specs.TenLinesExamples.{two, header}
 use Rattle.dist_cert.specs.LineExamples.{asking, asked, claim_on_a, on_b, claim_on_b}

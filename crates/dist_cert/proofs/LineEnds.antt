@@ -5,7 +5,7 @@ use Rattle.std.proofs.lemmas.List.{take-append-le}
 use Rattle.std.proofs.lemmas.List.Elements.{All-tail, All-take}
 use Rattle.dist_base.specs.Ascii.{line_feed}
 use Rattle.dist_outside.specs.declared.limits.Limits.{Limits}
-use Rattle.dist_cert.specs.Refusal.{IsOneLine, IsTooLong}
+use Rattle.dist_cert.specs.FileLines.{IsOneLine, IsTooLong}
 use Rattle.dist_cert.specs.Reading.{in_front, WhereTold, PassesWhole, KeepsLimits}
 use Rattle.dist_cert.specs.Held.{Held}
 use Rattle.dist_outside.specs.declared.trouble.What.TheVariants.{Certificate}

@@ -12,7 +12,7 @@ use Rattle.dist_cert.specs.declared.records.CertRecord.TheVariants.{Outdated, Al
 use Rattle.dist_cert.specs.declared.records.Header.{Header}
 use Rattle.dist_cert.specs.Form.{Word, IsSmall, signed_text, word_text, words_text, plains, letter, words, record_text, HasForm, kind_text, mode_text}
 use Rattle.dist_cert.specs.Form.{header_text, HasHeaderForm}
-use Rattle.dist_cert.specs.Refusal.{IsOneLine}
+use Rattle.dist_cert.specs.FileLines.{IsOneLine}
 use Rattle.dist_cert.specs.ClearFormsLaws.{FormsAreClear}
 use Rattle.dist_cert.proofs.OneForm.{Digits, digits_of_decimal, header_words_small, one_record, one_header}
 

@@ -8,7 +8,8 @@ use Rattle.dist_cert.specs.declared.records.CertRecord.{CertRecord}
 use Rattle.dist_cert.specs.declared.records.CertRecord.TheVariants.{End}
 use Rattle.dist_cert.specs.declared.records.Header.{Header}
 use Rattle.dist_cert.specs.Form.{record_text, HasForm, IsSmall, is_end, header_text, HasHeaderForm}
-use Rattle.dist_cert.specs.Refusal.{lines_text, certificate_text}
+use Rattle.dist_cert.specs.FileLines.{lines_text}
+use Rattle.dist_cert.specs.Refusal.{certificate_text}
 use Rattle.dist_cert.specs.Reading.{ReaderView, KeepsLimits, IsHeaderNext, IsRecordNext, IsAtEnd, past_line}
 use Rattle.dist_cert.specs.ReadBackLaws.{CanBeWritten, GivesRecords, GivesText}
 use Rattle.dist_cert.proofs.ExactReader.{header_given, record_given, text_ends}

@@ -2,14 +2,14 @@
 use Rattle.std.specs.Prelude.{◌≡◌, ℕ, ◌-◌, List, [], ◌∷◌, map}
 use Rattle.std.specs.List.{flat_map}
 use Rattle.dist_outside.specs.declared.limits.Limits.{Limits}
-use Rattle.dist_cert.specs.declared.faults.CertCause.{CertCause}
 use Rattle.dist_cert.specs.declared.records.CertRecord.{CertRecord}
 use Rattle.dist_cert.specs.declared.records.CertRecord.TheVariants as lines
 use Rattle.dist_cert.specs.declared.records.Claim.{Claim}
 use Rattle.dist_cert.specs.declared.records.Claim.TheVariants as claims
 use Rattle.dist_cert.specs.declared.records.Header.{Header}
 use Rattle.dist_cert.specs.Subject.{Matter}
-use Rattle.dist_cert.specs.Refusal.{HasLineFault, AreFaultless}
+use Rattle.dist_cert.specs.FileLines.{IsWhole}
+use Rattle.dist_cert.specs.Refusal.{certificate_rules}
 
 -- ---- what is claimed, with numbers from 0
 
@@ -36,11 +36,9 @@ claims_in steps = flat_map claim_in steps
 
 -- ---- acceptance
 
--- The text is the lines of this header and these records. No line has a fault, and none is missing behind the last.
-pub record IsAcceptedAs (matter : Matter) (limits : Limits) (text : List ℕ) (h : Header)
-    (steps : List CertRecord) : Type 0 where
-  pub faultless : AreFaultless matter limits text h steps []
-  pub ends : (cause : CertCause) → ¬ HasLineFault matter limits h steps [] cause
+-- the text is the lines of this header and these records, without a fault, and none is missing behind the last
+abbrev pub IsAcceptedAs : Matter → Limits → List ℕ → Header → List CertRecord → Type 0
+IsAcceptedAs matter limits text h steps = IsWhole (certificate_rules matter) limits text h steps
 
 -- The text is accepted with this header and these claims, one for each package in order.
 abbrev pub Accepted : Matter → Limits → List ℕ → Header → List Claim → Type 0

@@ -17,10 +17,10 @@ use Rattle.dist_cert.specs.declared.records.Header.{Header}
 use Rattle.dist_cert.specs.Form.{record_text, HasForm, is_end, header_text, HasHeaderForm}
 use Rattle.dist_cert.specs.Subject.{Matter}
 use Rattle.dist_cert.specs.LineRules.{HasRecordFault}
-use Rattle.dist_cert.specs.Refusal.{IsOneLine, lines_text, certificate_text, Fits, IsBadStep, HasFirstFault}
-use Rattle.dist_cert.specs.Refusal.{HasLineFault, in_order, IsFirstOf, AreFaultless, Refusal}
+use Rattle.dist_cert.specs.FileLines.{IsFaulty, IsOneLine, lines_text, in_order, IsFirstOf, HasFaultBehind}
+use Rattle.dist_cert.specs.Refusal.{certificate_text, Fits, HasFirstFault, HasLineFault, AreFaultless, Refusal}
 use Rattle.dist_cert.specs.Accepted.{claims_in, Accepted}
-use Rattle.dist_cert.specs.ClearFormsLaws.{FormsAreClear}
+use Rattle.dist_cert.specs.ClearFormsLaws.{AreOfRecords, FormsAreClear, RecordsAreClear, clear_records, of_records}
 use Rattle.dist_cert.specs.OneVerdictLaws.{one_line, first_line_of}
 
 -- ---- a line that is whole and short
@@ -39,39 +39,39 @@ within (suc limit) (x ∷ line) more short h =
 
 -- ---- the faults of such a line
 
-pub same_step : FormsAreClear → (matter : Matter) (h : Header) (before : List CertRecord) (step : CertRecord)
-    (more : List ℕ) (cause : CertCause) → HasForm (record_text step) step
-    → IsBadStep matter h before (record_text step ++ line_feed ∷ more) cause → HasRecordFault matter h before step cause
-same_step clear matter h before step more cause form bad =
+-- A line with this form has the faults of its record and no other one.
+pub same_step : RecordsAreClear → (HasFault : List CertRecord → CertRecord → CertCause → Type 0)
+    (before : List CertRecord) (step : CertRecord) (more : List ℕ) (cause : CertCause) → HasForm (record_text step) step
+    → IsFaulty HasFault before (record_text step ++ line_feed ∷ more) cause → HasFault before step cause
+same_step clear HasFault before step more cause form bad =
     let line = bad.0 in
     let other = bad.2 in
     let same = one_line (record_text step) line more bad.1 (clear.record_line step form) bad.3.one_line bad.3.ended in
     let one : step ≡ other = clear.one_record line step other (subst (λ l. HasForm l step) same.0 form) bad.4 in
-    subst (λ s. HasRecordFault matter h before s cause) (sym one) bad.5
+    subst (λ s. HasFault before s cause) (sym one) bad.5
 
-pub line_to_record : FormsAreClear → (matter : Matter) (limits : Limits) (h : Header) (before : List CertRecord)
-    (step : CertRecord) (more : List ℕ) → HasForm (record_text step) step
+pub line_to_record : RecordsAreClear → (HasFault : List CertRecord → CertRecord → CertCause → Type 0) (limits : Limits)
+    (before : List CertRecord) (step : CertRecord) (more : List ℕ) → HasForm (record_text step) step
     → (¬ Contains before End) → length (record_text step) < limits.record_line → (cause : CertCause)
-    → HasLineFault matter limits h before (record_text step ++ line_feed ∷ more) cause
-    → HasRecordFault matter h before step cause
-line_to_record clear matter limits h before step more form no_end short causes.LineTooLong f =
-    within limits.record_line (record_text step) more short f.1
-line_to_record clear matter limits h before step more form no_end short causes.Truncated f =
-    whole_line (record_text step) more f.0
-line_to_record clear matter limits h before step more form no_end short causes.BadRecord f = ⊎_elim no_end (λ none.
-    none step (subst (λ l. HasForm l step) (one_line (record_text step) f.0 more f.1 (clear.record_line step form)
-    f.2.one_line f.2.ended).0 form)) f.3
-line_to_record clear matter limits h before step more form no_end short cause f =
-    same_step clear matter h before step more cause form f
+    → HasFaultBehind HasFault limits before (record_text step ++ line_feed ∷ more) cause → HasFault before step cause
+line_to_record clear HasFault limits before step more form no_end short causes.LineTooLong f =
+    absurd (within limits.record_line (record_text step) more short f.1)
+line_to_record clear HasFault limits before step more form no_end short causes.Truncated f =
+    absurd (whole_line (record_text step) more f.0)
+line_to_record clear HasFault limits before step more form no_end short causes.BadRecord f =
+    absurd (⊎_elim no_end (λ none. none step (subst (λ l. HasForm l step)
+    (one_line (record_text step) f.0 more f.1 (clear.record_line step form) f.2.one_line f.2.ended).0 form)) f.3)
+line_to_record clear HasFault limits before step more form no_end short cause f =
+    same_step clear HasFault before step more cause form f
 
-pub record_to_line : FormsAreClear → (matter : Matter) (limits : Limits) (h : Header) (before : List CertRecord)
-    (step : CertRecord) (more : List ℕ) → HasForm (record_text step) step
-    → (cause : CertCause) → HasRecordFault matter h before step cause
-    → HasLineFault matter limits h before (record_text step ++ line_feed ∷ more) cause
-record_to_line clear matter limits h before step more form causes.LineTooLong f = absurd f
-record_to_line clear matter limits h before step more form causes.Truncated f = absurd f
-record_to_line clear matter limits h before step more form causes.BadRecord f = absurd f
-record_to_line clear matter limits h before step more form cause f =
+pub record_to_line : RecordsAreClear → (HasFault : List CertRecord → CertRecord → CertCause → Type 0) (limits : Limits)
+    (before : List CertRecord) (step : CertRecord) (more : List ℕ) → HasForm (record_text step) step
+    → AreOfRecords (HasFault before step) → (cause : CertCause) → HasFault before step cause
+    → HasFaultBehind HasFault limits before (record_text step ++ line_feed ∷ more) cause
+record_to_line clear HasFault limits before step more form of causes.LineTooLong f = absurd (of.not_long f)
+record_to_line clear HasFault limits before step more form of causes.Truncated f = absurd (of.not_cut f)
+record_to_line clear HasFault limits before step more form of causes.BadRecord f = absurd (of.not_bad f)
+record_to_line clear HasFault limits before step more form of cause f =
     (record_text step, more, step, record { ended = refl; one_line = clear.record_line step form }, form, f)
 
 -- ---- lines of known records
@@ -169,7 +169,8 @@ sound_lines clear matter limits h before rest sound all = record {
       (append_assoc (header_text h) (line_feed ∷ lines_text before) rest) f);
   later = λ earlier step others e cause f.
       let one = sound_at limits matter h [] before earlier step others e all in
-      one.faultless cause (line_to_record clear matter limits h earlier step (lines_text others ++ rest) one.form
+      one.faultless cause (line_to_record (clear_records clear) (HasRecordFault matter h) limits earlier step
+          (lines_text others ++ rest) one.form
       (no_end_in earlier one.not_ended) one.short cause
       (subst (λ bytes. HasLineFault matter limits h earlier bytes cause) (first_line_of step others rest) f));
 }
@@ -199,8 +200,10 @@ refused_by_record clear matter limits h before step more cause sound all form sh
     line = refl;
     cause = map_first (HasRecordFault matter h before step)
         (HasLineFault matter limits h before (record_text step ++ line_feed ∷ more))
-        (record_to_line clear matter limits h before step more form)
-        (line_to_record clear matter limits h before step more form (no_end_in before not_ended) short) in_order
+        (record_to_line (clear_records clear) (HasRecordFault matter h) limits before step more form
+            (of_records matter h before step))
+        (line_to_record (clear_records clear) (HasRecordFault matter h) limits before step more form
+            (no_end_in before not_ended) short) in_order
         cause first;
   },
 )

@@ -8,7 +8,7 @@ use Rattle.dist_cert.specs.declared.faults.CertCause.{CertCause}
 use Rattle.dist_cert.specs.declared.faults.CertCause.TheVariants as causes
 use Rattle.dist_cert.specs.declared.faults.ReadCertError.{ReadCertError}
 use Rattle.dist_cert.specs.declared.faults.ReadCertError.TheVariants.{Bad, Work}
-use Rattle.dist_cert.specs.Refusal.{IsOneLine, BeginsWith, IsTooLong}
+use Rattle.dist_cert.specs.FileLines.{IsOneLine, BeginsWith, IsTooLong}
 use Rattle.dist_cert.specs.Reading.{ReaderView, PassesWhole, KeepsLimits, WorkCause, past_line}
 
 -- the bytes of what is given

@@ -7,6 +7,8 @@ pub mod Subject
 pub mod Groups
 pub mod ClaimRules
 pub mod LineRules
+pub mod FileLines
+pub mod FirstLines
 pub mod Refusal
 pub mod Reading
 pub mod FirstLine

@@ -15,7 +15,7 @@ use Rattle.dist_cert.specs.declared.faults.ReadCertError.TheVariants.{Bad}
 use Rattle.dist_cert.specs.declared.lines.Reached.{Reached}
 use Rattle.dist_cert.specs.declared.lines.Reached.TheVariants.{Feed, File, Within}
 use Rattle.dist_cert.specs.declared.records.CertRecord.{CertRecord}
-use Rattle.dist_cert.specs.Refusal.{IsOneLine, IsTooLong}
+use Rattle.dist_cert.specs.FileLines.{IsOneLine, IsTooLong}
 use Rattle.dist_cert.specs.Reading.{in_front, PassesWhole, KeepsLimits}
 use Rattle.dist_cert.specs.Held.{Held}
 

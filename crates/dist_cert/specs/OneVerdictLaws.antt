@@ -10,16 +10,12 @@ use Rattle.dist_outside.specs.declared.limits.Limits.{Limits}
 use Rattle.dist_cert.specs.declared.faults.CertCause.{CertCause}
 use Rattle.dist_cert.specs.declared.faults.CertFault.{CertFault}
 use Rattle.dist_cert.specs.declared.records.CertRecord.{CertRecord}
-use Rattle.dist_cert.specs.declared.records.Claim.{Claim}
-use Rattle.dist_cert.specs.declared.records.Header.{Header}
-use Rattle.dist_cert.specs.Form.{record_text, HasForm, header_text, HasHeaderForm}
-use Rattle.dist_cert.specs.Subject.{Matter}
+use Rattle.dist_cert.specs.Form.{record_text, HasForm}
 use Rattle.dist_cert.specs.Groups.{is_some_number}
-use Rattle.dist_cert.specs.Refusal.{IsOneLine, lines_text, certificate_text, Reads, HasFirstFault}
-use Rattle.dist_cert.specs.Refusal.{HasLineFault, in_order, IsFirstOf, AreFaultless, IsFirstRefused, IsLaterRefused}
-use Rattle.dist_cert.specs.Refusal.{Refusal}
-use Rattle.dist_cert.specs.ClearFormsLaws.{FormsAreClear}
-use Rattle.dist_cert.specs.Accepted.{claims_in, Accepted}
+use Rattle.dist_cert.specs.ClearFormsLaws.{AreClear, RecordsAreClear}
+use Rattle.dist_cert.specs.FileLines.{Rules, IsOneLine, lines_text, file_text, ReadsAs, HasHeadingFault}
+use Rattle.dist_cert.specs.FileLines.{HasFaultBehind, in_order, IsFirstOf, AreRight, IsRefusedFirst, IsRefusedLater}
+use Rattle.dist_cert.specs.FileLines.{IsRefusedWith, IsWhole}
 
 -- ---- first causes
 
@@ -89,7 +85,7 @@ IsShorter few rest many other = (step : CertRecord) × (more : List CertRecord) 
     × (rest ≡ lines_text (step ∷ more) ++ other)
 
 -- of two readings of a text one is a front of the other
-one_is_front : FormsAreClear → (ones twos : List CertRecord) (rest other : List ℕ) → AreRecords ones → AreRecords twos
+one_is_front : RecordsAreClear → (ones twos : List CertRecord) (rest other : List ℕ) → AreRecords ones → AreRecords twos
     → lines_text ones ++ rest ≡ lines_text twos ++ other
     → IsFront ones rest twos other ⊎ IsShorter twos other ones rest
 unfolding AreRecords IsFront
@@ -109,32 +105,33 @@ one_is_front clear (a ∷ ones) (b ∷ twos) rest other ha hb e =
 
 -- ---- readings of one text
 
-same_lines : FormsAreClear → (text : List ℕ) (h other : Header) (ones twos : List CertRecord) (rest more : List ℕ)
-    → Reads text h ones rest → Reads text other twos more
+same_lines : (rules : Rules) → AreClear rules → (text : List ℕ) (h other : rules.Heading) (ones twos : List CertRecord)
+    (rest more : List ℕ) → ReadsAs rules.heading_text rules.HasHeadingForm text h ones rest
+    → ReadsAs rules.heading_text rules.HasHeadingForm text other twos more
     → (h ≡ other) × (lines_text ones ++ rest ≡ lines_text twos ++ more)
-same_lines clear text h other ones twos rest more r s =
-    let split : (k : Header) (steps : List CertRecord) (tail : List ℕ)
-    → certificate_text k steps ++ tail ≡ header_text k ++ line_feed ∷ (lines_text steps ++ tail)
-    = λ k steps tail. append_assoc (header_text k) (line_feed ∷ lines_text steps) tail in
-    let lines = one_line (header_text h) (header_text other) (lines_text ones ++ rest) (lines_text twos ++ more)
-    (clear.header_line h r.header) (clear.header_line other s.header)
+same_lines rules clear text h other ones twos rest more r s =
+    let split : (k : rules.Heading) (steps : List CertRecord) (tail : List ℕ)
+    → file_text (rules.heading_text k) steps ++ tail ≡ rules.heading_text k ++ line_feed ∷ (lines_text steps ++ tail)
+    = λ k steps tail. append_assoc (rules.heading_text k) (line_feed ∷ lines_text steps) tail in
+    let lines = one_line (rules.heading_text h) (rules.heading_text other) (lines_text ones ++ rest)
+    (lines_text twos ++ more) (clear.heading_line h r.header) (clear.heading_line other s.header)
     (sym (split h ones rest) ∙ sym r.text_is ∙ s.text_is ∙ split other twos more) in (
-      clear.one_header (header_text h) h other r.header
-          (subst (λ line. HasHeaderForm line other) (sym lines.0) s.header),
+      clear.one_heading (rules.heading_text h) h other r.header
+          (subst (λ line. rules.HasHeadingForm line other) (sym lines.0) s.header),
       lines.1,
     )
 
 -- ---- the laws
 
 -- a line of faultless lines has no fault
-pub not_faulty : (matter : Matter) (limits : Limits) (text : List ℕ) (h other : Header) (few many : List CertRecord)
-    (rest more : List ℕ) (cause : CertCause)
-    → h ≡ other → AreFaultless matter limits text other many more → IsShorter few rest many more
-    → ¬ HasLineFault matter limits h few rest cause
-not_faulty matter limits text h other few many rest more cause same faultless shorter fault =
+pub not_faulty : (rules : Rules) (limits : Limits) (text : List ℕ) (h other : rules.Heading)
+    (few many : List CertRecord) (rest more : List ℕ) (cause : CertCause)
+    → h ≡ other → AreRight rules limits text other many more → IsShorter few rest many more
+    → ¬ HasFaultBehind (rules.HasFault h) limits few rest cause
+not_faulty rules limits text h other few many rest more cause same faultless shorter fault =
     faultless.later few shorter.0 shorter.1 shorter.2 cause
-    (subst (λ bytes. HasLineFault matter limits other few bytes cause) shorter.3
-    (subst (λ k. HasLineFault matter limits k few rest cause) same fault))
+    (subst (λ bytes. HasFaultBehind (rules.HasFault other) limits few bytes cause) shorter.3
+    (subst (λ k. HasFaultBehind (rules.HasFault k) limits few rest cause) same fault))
 
 same_fault : (fault other : CertFault) → fault.line ≡ other.line → fault.cause ≡ other.cause → fault ≡ other
 same_fault fault other line cause = subst (λ n. fault ≡ record { line = n; cause = other.cause }) line
@@ -152,42 +149,45 @@ front_cases few many rest more h = cases h.0 h.1 h.2
     cases (step ∷ later) e f = inr (step, later, e, f)
 
 -- two readings of one text have one header, and are the same or one is shorter
-pub readings : FormsAreClear → (text : List ℕ) (h other : Header) (ones twos : List CertRecord) (rest more : List ℕ)
-    → Reads text h ones rest → Reads text other twos more
+pub readings : (rules : Rules) → AreClear rules
+    → (text : List ℕ) (h other : rules.Heading) (ones twos : List CertRecord)
+    (rest more : List ℕ) → ReadsAs rules.heading_text rules.HasHeadingForm text h ones rest
+    → ReadsAs rules.heading_text rules.HasHeadingForm text other twos more
     → (h ≡ other) × (((ones ≡ twos) × (rest ≡ more)) ⊎ (IsShorter ones rest twos more ⊎ IsShorter twos more ones rest))
 unfolding AreRecords
-readings clear text h other ones twos rest more r s =
-    let same = same_lines clear text h other ones twos rest more r s in (
+readings rules clear text h other ones twos rest more r s =
+    let same = same_lines rules clear text h other ones twos rest more r s in (
       same.0,
       ⊎_elim (λ front. ⊎_elim inl (λ shorter. inr (inl shorter)) (front_cases ones twos rest more front))
-          (λ shorter. inr (inr shorter)) (one_is_front clear ones twos rest more r.records s.records same.1),
+          (λ shorter. inr (inr shorter)) (one_is_front clear.records ones twos rest more r.records s.records same.1),
     )
 
-not_first_and_later : (matter : Matter) (limits : Limits) (text : List ℕ) (fault : CertFault) (h : Header)
+not_first_and_later : (rules : Rules) (limits : Limits) (text : List ℕ) (fault : CertFault) (h : rules.Heading)
     (before : List CertRecord) (rest : List ℕ)
-    → IsFirstRefused matter limits text fault → ¬ AreFaultless matter limits text h before rest
-not_first_and_later matter limits text fault h before rest first faultless =
-    faultless.first fault.cause (has_first (HasFirstFault matter limits text) in_order fault.cause first.cause)
+    → IsRefusedFirst rules limits text fault → ¬ AreRight rules limits text h before rest
+not_first_and_later rules limits text fault h before rest first faultless =
+    faultless.first fault.cause (has_first (HasHeadingFault rules limits text) in_order fault.cause first.cause)
 
-one_later : FormsAreClear → (matter : Matter) (limits : Limits) (text : List ℕ) (fault gault : CertFault)
-    (h other : Header) (ones twos : List CertRecord) (rest more : List ℕ)
-    → IsLaterRefused matter limits text h ones rest fault → IsLaterRefused matter limits text other twos more gault
+one_later : (rules : Rules) → AreClear rules → (limits : Limits) (text : List ℕ) (fault gault : CertFault)
+    (h other : rules.Heading) (ones twos : List CertRecord) (rest more : List ℕ)
+    → IsRefusedLater rules limits text h ones rest fault → IsRefusedLater rules limits text other twos more gault
     → fault ≡ gault
-one_later clear matter limits text fault gault h other ones twos rest more x y =
-    let read = readings clear text h other ones twos rest more x.faultless.reads y.faultless.reads in
+one_later rules clear limits text fault gault h other ones twos rest more x y =
+    let read = readings rules clear text h other ones twos rest more x.faultless.reads y.faultless.reads in
     ⊎_elim
     (λ same.
-    let there : IsFirstOf in_order (HasLineFault matter limits other twos more) fault.cause
-    = subst (λ bytes. IsFirstOf in_order (HasLineFault matter limits other twos bytes) fault.cause) same.1
-    (subst (λ steps. IsFirstOf in_order (HasLineFault matter limits other steps rest) fault.cause) same.0
-    (subst (λ k. IsFirstOf in_order (HasLineFault matter limits k ones rest) fault.cause) read.0 x.cause)) in
+    let there : IsFirstOf in_order (HasFaultBehind (rules.HasFault other) limits twos more) fault.cause
+    = subst (λ bytes. IsFirstOf in_order (HasFaultBehind (rules.HasFault other) limits twos bytes) fault.cause) same.1
+    (subst (λ steps. IsFirstOf in_order (HasFaultBehind (rules.HasFault other) limits steps rest) fault.cause) same.0
+    (subst (λ k. IsFirstOf in_order (HasFaultBehind (rules.HasFault k) limits ones rest) fault.cause) read.0 x.cause))
+        in
     same_fault fault gault (x.line ∙ ap (λ steps. length steps + 2) same.0 ∙ sym y.line)
-    (one_first (HasLineFault matter limits other twos more) in_order fault.cause gault.cause there y.cause))
+    (one_first (HasFaultBehind (rules.HasFault other) limits twos more) in_order fault.cause gault.cause there y.cause))
     (λ apart. ⊎_elim
-    (λ shorter. absurd (not_faulty matter limits text h other ones twos rest more fault.cause read.0 y.faultless
-    shorter (has_first (HasLineFault matter limits h ones rest) in_order fault.cause x.cause)))
-    (λ shorter. absurd (not_faulty matter limits text other h twos ones more rest gault.cause (sym read.0) x.faultless
-    shorter (has_first (HasLineFault matter limits other twos more) in_order gault.cause y.cause)))
+    (λ shorter. absurd (not_faulty rules limits text h other ones twos rest more fault.cause read.0 y.faultless
+    shorter (has_first (HasFaultBehind (rules.HasFault h) limits ones rest) in_order fault.cause x.cause)))
+    (λ shorter. absurd (not_faulty rules limits text other h twos ones more rest gault.cause (sym read.0) x.faultless
+    shorter (has_first (HasFaultBehind (rules.HasFault other) limits twos more) in_order gault.cause y.cause)))
     apart)
     read.1
 
@@ -196,55 +196,51 @@ pub nothing_more : (few many : List CertRecord) (more : List ℕ) → ¬ IsShort
 nothing_more few many more h = false≢true (ap is_some_number h.3)
 
 -- A text has one refusal at most.
-pub one_refusal : FormsAreClear → (matter : Matter) (limits : Limits) (text : List ℕ) (fault other : CertFault)
-    → Refusal matter limits text fault → Refusal matter limits text other → fault ≡ other
-one_refusal clear matter limits text fault gault r s = ⊎_elim
+pub one_refusal : (rules : Rules) → AreClear rules → (limits : Limits) (text : List ℕ) (fault other : CertFault)
+    → IsRefusedWith rules limits text fault → IsRefusedWith rules limits text other → fault ≡ other
+one_refusal rules clear limits text fault gault r s = ⊎_elim
     (λ x. ⊎_elim
     (λ y. same_fault fault gault (x.line ∙ sym y.line)
-    (one_first (HasFirstFault matter limits text) in_order fault.cause gault.cause x.cause y.cause))
-    (λ y. absurd (not_first_and_later matter limits text fault y.0 y.1 y.2 x y.3.faultless))
+    (one_first (HasHeadingFault rules limits text) in_order fault.cause gault.cause x.cause y.cause))
+    (λ y. absurd (not_first_and_later rules limits text fault y.0 y.1 y.2 x y.3.faultless))
     s)
     (λ x. ⊎_elim
-    (λ y. absurd (not_first_and_later matter limits text gault x.0 x.1 x.2 y x.3.faultless))
-    (λ y. one_later clear matter limits text fault gault x.0 y.0 x.1 y.1 x.2 y.2 x.3 y.3)
+    (λ y. absurd (not_first_and_later rules limits text gault x.0 x.1 x.2 y x.3.faultless))
+    (λ y. one_later rules clear limits text fault gault x.0 y.0 x.1 y.1 x.2 y.2 x.3 y.3)
     s)
     r
 
--- An accepted text has no refusal.
-pub never_both : FormsAreClear → (matter : Matter) (limits : Limits) (text : List ℕ) (h : Header) (made : List Claim)
-    (fault : CertFault)
-    → Accepted matter limits text h made → ¬ Refusal matter limits text fault
-never_both clear matter limits text h made fault accepted refusal =
-    let steps = accepted.0 in
-    let whole = accepted.1 in
-    ⊎_elim
-    (λ x. not_first_and_later matter limits text fault h steps [] x whole.faultless)
+-- A text without a fault has no refusal.
+pub never_both : (rules : Rules) → AreClear rules → (limits : Limits) (text : List ℕ) (h : rules.Heading)
+    (steps : List CertRecord) (fault : CertFault)
+    → IsWhole rules limits text h steps → ¬ IsRefusedWith rules limits text fault
+never_both rules clear limits text h steps fault whole refusal = ⊎_elim
+    (λ x. not_first_and_later rules limits text fault h steps [] x whole.faultless)
     (λ x.
-    let read = readings clear text x.0 h x.1 steps x.2 [] x.3.faultless.reads whole.faultless.reads in
-    let faulty : HasLineFault matter limits x.0 x.1 x.2 fault.cause =
-    has_first (HasLineFault matter limits x.0 x.1 x.2) in_order fault.cause x.3.cause in
+    let read = readings rules clear text x.0 h x.1 steps x.2 [] x.3.faultless.reads whole.faultless.reads in
+    let faulty : HasFaultBehind (rules.HasFault x.0) limits x.1 x.2 fault.cause =
+    has_first (HasFaultBehind (rules.HasFault x.0) limits x.1 x.2) in_order fault.cause x.3.cause in
     ⊎_elim
     (λ same. whole.ends fault.cause
-    (subst (λ bytes. HasLineFault matter limits h steps bytes fault.cause) same.1
-    (subst (λ lines. HasLineFault matter limits h lines x.2 fault.cause) same.0
-    (subst (λ k. HasLineFault matter limits k x.1 x.2 fault.cause) read.0 faulty))))
+    (subst (λ bytes. HasFaultBehind (rules.HasFault h) limits steps bytes fault.cause) same.1
+    (subst (λ lines. HasFaultBehind (rules.HasFault h) limits lines x.2 fault.cause) same.0
+    (subst (λ k. HasFaultBehind (rules.HasFault k) limits x.1 x.2 fault.cause) read.0 faulty))))
     (λ apart. ⊎_elim
-    (λ shorter. not_faulty matter limits text x.0 h x.1 steps x.2 [] fault.cause read.0 whole.faultless shorter faulty)
+    (λ shorter. not_faulty rules limits text x.0 h x.1 steps x.2 [] fault.cause read.0 whole.faultless shorter faulty)
     (λ shorter. nothing_more steps x.1 x.2 shorter)
     apart)
     read.1)
     refusal
 
--- A text is accepted with one header and one list of claims at most.
-pub one_acceptance : FormsAreClear → (matter : Matter) (limits : Limits) (text : List ℕ) (h other : Header)
-    (made claims : List Claim)
-    → Accepted matter limits text h made → Accepted matter limits text other claims → (h ≡ other) × (made ≡ claims)
-one_acceptance clear matter limits text h other made claims x y =
-    let read = readings clear text h other x.0 y.0 [] [] x.1.faultless.reads y.1.faultless.reads in (
+-- A text is whole with one heading and one list of records at most.
+pub one_acceptance : (rules : Rules) → AreClear rules → (limits : Limits) (text : List ℕ) (h other : rules.Heading)
+    (ones twos : List CertRecord) → IsWhole rules limits text h ones → IsWhole rules limits text other twos
+    → (h ≡ other) × (ones ≡ twos)
+one_acceptance rules clear limits text h other ones twos x y =
+    let read = readings rules clear text h other ones twos [] [] x.faultless.reads y.faultless.reads in (
       read.0,
-      ⊎_elim
-          (λ same. x.2 ∙ ap claims_in same.0 ∙ sym y.2)
-          (λ apart. ⊎_elim (λ shorter. absurd (nothing_more x.0 y.0 [] shorter))
-          (λ shorter. absurd (nothing_more y.0 x.0 [] shorter)) apart)
+      ⊎_elim (λ same. same.0)
+          (λ apart. ⊎_elim (λ shorter. absurd (nothing_more ones twos [] shorter))
+          (λ shorter. absurd (nothing_more twos ones [] shorter)) apart)
           read.1,
     )

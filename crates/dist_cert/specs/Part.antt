@@ -21,7 +21,8 @@ use Rattle.dist_cert.specs.Subject.{Matter}
 use Rattle.dist_cert.specs.Groups.{clause_of, derived, numbered, installation_at, installations, claim_count, group}
 use Rattle.dist_cert.specs.Groups.{IsOpen}
 use Rattle.dist_cert.specs.ClaimRules.{yes, no, claim_question, challenge_question, Covers, IsPairFor}
-use Rattle.dist_cert.specs.Refusal.{IsOneLine, lines_text, certificate_text, Reads, HasFirstFault, HasLineFault}
+use Rattle.dist_cert.specs.FileLines.{IsOneLine, lines_text}
+use Rattle.dist_cert.specs.Refusal.{certificate_text, Reads, HasFirstFault, HasLineFault}
 use Rattle.dist_cert.specs.Writing.{ended}
 
 -- ---- questions

@@ -13,8 +13,9 @@ use Rattle.dist_cert.specs.declared.records.Header.{Header}
 use Rattle.dist_cert.specs.Form.{record_text, HasForm, is_end, header_text, HasHeaderForm}
 use Rattle.dist_cert.specs.Subject.{Matter}
 use Rattle.dist_cert.specs.LineRules.{HasRecordFault}
-use Rattle.dist_cert.specs.Refusal.{lines_text, certificate_text, Fits, HasFirstFault, HasLineFault}
-use Rattle.dist_cert.specs.ClearFormsLaws.{FormsAreClear}
+use Rattle.dist_cert.specs.FileLines.{lines_text}
+use Rattle.dist_cert.specs.Refusal.{certificate_text, Fits, HasFirstFault, HasLineFault}
+use Rattle.dist_cert.specs.ClearFormsLaws.{FormsAreClear, clear_records}
 use Rattle.dist_cert.specs.OneVerdictLaws.{one_line}
 use Rattle.dist_cert.specs.ByRecordsLaws.{whole_line, within, same_step, no_end_in, AreSound}
 use Rattle.dist_cert.specs.Part.{IsNextLine, IsLastTooLong, IsPartOf}
@@ -70,8 +71,8 @@ too-long-alone clear matter limits h before step more line causes.BadRecord f =
     (one_line (record_text step) f.0 more f.1 (clear.record_line step line.form) f.2.one_line f.2.ended).0
     line.form)) f.3)
 too-long-alone clear matter limits h before step more line cause f =
-    absurd (line.faultless cause (same_step clear matter h before step more cause line.form
-    f))
+    absurd (line.faultless cause (same_step (clear_records clear)
+        (HasRecordFault matter h) before step more cause line.form f))
 
 first-alone : FormsAreClear → (matter : Matter) (limits : Limits) (h : Header) (more : List ℕ) → IsHeaderOf matter h
     → (cause : CertCause) → HasFirstFault matter limits (header_text h ++ line_feed ∷ more) cause

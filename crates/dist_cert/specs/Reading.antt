@@ -15,7 +15,7 @@ use Rattle.dist_cert.specs.declared.faults.ReadCertError.TheVariants.{Bad, Work}
 use Rattle.dist_cert.specs.declared.records.CertRecord.{CertRecord}
 use Rattle.dist_cert.specs.declared.records.Header.{Header}
 use Rattle.dist_cert.specs.Form.{record_text, HasForm, is_end, header_text, HasHeaderForm}
-use Rattle.dist_cert.specs.Refusal.{IsOneLine, BeginsWith, IsTooLong}
+use Rattle.dist_cert.specs.FileLines.{IsOneLine, BeginsWith, IsTooLong}
 
 -- ---- a reader
 

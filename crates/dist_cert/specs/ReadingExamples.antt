@@ -9,7 +9,7 @@ use Rattle.dist_cert.specs.declared.faults.CertCause.TheVariants as causes
 use Rattle.dist_cert.specs.declared.faults.ReadCertError.TheVariants.{Bad, Work}
 use Rattle.dist_cert.specs.declared.records.CertRecord.TheVariants.{End}
 use Rattle.dist_cert.specs.Form.{IsSmall, record_text}
-use Rattle.dist_cert.specs.Refusal.{IsOneLine}
+use Rattle.dist_cert.specs.FileLines.{IsOneLine}
 use Rattle.dist_cert.specs.Reading.{ReaderView, RecordAnswers, past_line}
 
 -- 100 bytes of a whole and `line` of a line; these are given before

@@ -10,13 +10,10 @@ use Rattle.dist_cert.specs.declared.faults.CertCause.{CertCause}
 use Rattle.dist_cert.specs.declared.faults.CertCause.TheVariants as causes
 use Rattle.dist_cert.specs.declared.faults.CertFault.{CertFault}
 use Rattle.dist_cert.specs.declared.records.CertRecord.{CertRecord}
-use Rattle.dist_cert.specs.declared.records.Claim.{Claim}
-use Rattle.dist_cert.specs.declared.records.Header.{Header}
-use Rattle.dist_cert.specs.Form.{record_text, HasForm, header_text, HasHeaderForm}
-use Rattle.dist_cert.specs.Subject.{Matter}
-use Rattle.dist_cert.specs.Refusal.{IsOneLine, BeginsWith, lines_text, HasFirstFault, HasLineFault, in_order}
-use Rattle.dist_cert.specs.Refusal.{IsFirstOf, AreFaultless, Refusal}
-use Rattle.dist_cert.specs.Accepted.{claims_in, Accepted}
+use Rattle.dist_cert.specs.ClearFormsLaws.{AreClear}
+use Rattle.dist_cert.specs.Form.{record_text, HasForm}
+use Rattle.dist_cert.specs.FileLines.{Rules, IsOneLine, BeginsWith, lines_text, in_order, IsFirstOf, HasHeadingFault}
+use Rattle.dist_cert.specs.FileLines.{HasFaultBehind, AreRight, IsRefusedWith, IsWhole}
 
 -- ---- causes
 
@@ -119,16 +116,17 @@ push_text steps step rest line more begins form =
     ap (λ bytes. bytes ++ more) (flat_map-append one steps (step ∷ []))
     ∙ append_assoc (lines_text steps) (lines_text (step ∷ [])) more ∙ ap (λ bytes. lines_text steps ++ bytes) last
 
-pub grown : (matter : Matter) (limits : Limits) (text : List ℕ) (h : Header) (before : List CertRecord)
+pub grown : (rules : Rules) (limits : Limits) (text : List ℕ) (h : rules.Heading) (before : List CertRecord)
     (rest line more : List ℕ) (step : CertRecord)
-    → AreFaultless matter limits text h before rest
-    → ((cause : CertCause) → ¬ HasLineFault matter limits h before rest cause)
-    → BeginsWith rest line more → HasForm line step → AreFaultless matter limits text h (before ++ step ∷ []) more
-grown matter limits text h before rest line more step faultless none begins form = record {
+    → AreRight rules limits text h before rest
+    → ((cause : CertCause) → ¬ HasFaultBehind (rules.HasFault h) limits before rest cause)
+    → BeginsWith rest line more → HasForm line step → AreRight rules limits text h (before ++ step ∷ []) more
+grown rules limits text h before rest line more step faultless none begins form = record {
   reads = record {
-    text_is = faultless.reads.text_is ∙ append_assoc (header_text h) (line_feed ∷ lines_text before) rest
-        ∙ ap (λ bytes. header_text h ++ line_feed ∷ bytes) (sym (push_text before step rest line more begins form))
-        ∙ sym (append_assoc (header_text h) (line_feed ∷ lines_text (before ++ step ∷ [])) more);
+    text_is = faultless.reads.text_is ∙ append_assoc (rules.heading_text h) (line_feed ∷ lines_text before) rest
+        ∙ ap (λ bytes. rules.heading_text h ++ line_feed ∷ bytes)
+            (sym (push_text before step rest line more begins form))
+        ∙ sym (append_assoc (rules.heading_text h) (line_feed ∷ lines_text (before ++ step ∷ [])) more);
     header = faultless.reads.header;
     records = All-push (λ s. HasForm (record_text s) s) before step faultless.reads.records
         (subst (λ l. HasForm l step) form.text form);
@@ -139,56 +137,60 @@ grown matter limits text h before rest line more step faultless none begins form
   where
     later : (earlier : List CertRecord) (s : CertRecord) (others : List CertRecord)
         → before ++ step ∷ [] ≡ earlier ++ s ∷ others
-        → (cause : CertCause) → ¬ HasLineFault matter limits h earlier (lines_text (s ∷ others) ++ more) cause
+        → (cause : CertCause) → ¬ HasFaultBehind (rules.HasFault h) limits earlier
+            (lines_text (s ∷ others) ++ more) cause
     later earlier s others e cause fault = ⊎_elim
         (λ x.
         let bytes : lines_text (s ∷ others) ++ more ≡ rest
         = ap (λ r. lines_text (r ∷ others) ++ more) x.1 ∙ ap (λ rs. lines_text (step ∷ rs) ++ more) x.2
         ∙ push_text [] step rest line more begins form in
-        none cause (subst (λ bs. HasLineFault matter limits h before bs cause) bytes
-        (subst (λ steps. HasLineFault matter limits h steps (lines_text (s ∷ others) ++ more) cause) x.0 fault)))
+        none cause (subst (λ bs. HasFaultBehind (rules.HasFault h) limits before bs cause) bytes
+        (subst (λ steps. HasFaultBehind (rules.HasFault h) limits steps (lines_text (s ∷ others) ++ more) cause) x.0
+            fault)))
         (λ x.
         let bytes : lines_text (s ∷ others) ++ more ≡ lines_text (s ∷ x.0) ++ rest
         = ap (λ rs. lines_text (s ∷ rs) ++ more) x.2 ∙ push_text (s ∷ x.0) step rest line more begins form in
-        faultless.later earlier s x.0 x.1 cause (subst (λ bs. HasLineFault matter limits h earlier bs cause) bytes
+        faultless.later earlier s x.0 x.1 cause
+            (subst (λ bs. HasFaultBehind (rules.HasFault h) limits earlier bs cause) bytes
         fault))
         (split_push before earlier others s step e)
 
 -- ---- the law
 
-abbrev IsJudged : Matter → Limits → List ℕ → Type 0
-IsJudged matter limits text = ((h : Header) × (made : List Claim) × Accepted matter limits text h made)
-    ⊎ ((fault : CertFault) × Refusal matter limits text fault)
+abbrev IsJudged : Rules → Limits → List ℕ → Type 0
+IsJudged rules limits text = ((h : rules.Heading) × (steps : List CertRecord) × IsWhole rules limits text h steps)
+    ⊎ ((fault : CertFault) × IsRefusedWith rules limits text fault)
 
 some_byte : (x : ℕ) (xs : List ℕ) → x ∷ xs ≢ []
 some_byte x xs e = let n = ap length e in omega (arith, n)
 
-judge_rest : (matter : Matter) (limits : Limits) (text : List ℕ) (h : Header) (fuel : ℕ) (before : List CertRecord)
+judge_rest : (rules : Rules) (limits : Limits) (text : List ℕ) (h : rules.Heading) (fuel : ℕ) (before : List CertRecord)
     (rest : List ℕ)
-    → length rest < fuel → AreFaultless matter limits text h before rest → ¬ ¬ IsJudged matter limits text
-judge_rest matter limits text h zero before rest enough faultless never = omega (arith, enough)
-judge_rest matter limits text h (suc fuel) before rest enough faultless never =
-    first_or_none (HasLineFault matter limits h before rest) in_order (λ told. ⊎_elim
+    → length rest < fuel → AreRight rules limits text h before rest → ¬ ¬ IsJudged rules limits text
+judge_rest rules limits text h zero before rest enough faultless never = omega (arith, enough)
+judge_rest rules limits text h (suc fuel) before rest enough faultless never =
+    first_or_none (HasFaultBehind (rules.HasFault h) limits before rest) in_order (λ told. ⊎_elim
     (λ found. never (inr (
       record { line = length before + 2; cause = found.0 },
       inr (h, before, rest, record { faultless = faultless; line = refl; cause = found.1 }),
     )))
     (λ n.
-    let none : (cause : CertCause) → ¬ HasLineFault matter limits h before rest cause =
-    not_any (HasLineFault matter limits h before rest) n in
+    let none : (cause : CertCause) → ¬ HasFaultBehind (rules.HasFault h) limits before rest cause =
+    not_any (HasFaultBehind (rules.HasFault h) limits before rest) n in
     read_on none (λ line more step begins form.
     let size : length rest ≡ length line + length (line_feed ∷ more) = ap length begins.ended
     ∙ length-append line (line_feed ∷ more) in
-    judge_rest matter limits text h fuel (before ++ step ∷ []) more (omega (arith, enough, size))
-    (grown matter limits text h before rest line more step faultless none begins form) never))
+    judge_rest rules limits text h fuel (before ++ step ∷ []) more (omega (arith, enough, size))
+    (grown rules limits text h before rest line more step faultless none begins form) never))
     told)
   where
-    at_the_end : (left : List ℕ) → IsOneLine left → AreFaultless matter limits text h before left
-        → ((cause : CertCause) → ¬ HasLineFault matter limits h before left cause) → IsJudged matter limits text
-    at_the_end [] one all none = inl (h, claims_in before, (before, record { faultless = all; ends = none }, refl))
+    at_the_end : (left : List ℕ) → IsOneLine left → AreRight rules limits text h before left
+        → ((cause : CertCause) → ¬ HasFaultBehind (rules.HasFault h) limits before left cause)
+            → IsJudged rules limits text
+    at_the_end [] one all none = inl (h, before, record { faultless = all; ends = none })
     at_the_end (x ∷ left) one all none = absurd (none causes.Truncated (one, inl (some_byte x left)))
 
-    read_on : ((cause : CertCause) → ¬ HasLineFault matter limits h before rest cause)
+    read_on : ((cause : CertCause) → ¬ HasFaultBehind (rules.HasFault h) limits before rest cause)
         → ((line more : List ℕ) (step : CertRecord) → BeginsWith rest line more → ¬ HasForm line step) → ⊥
     read_on none go = ⊎_elim
         (λ s. either_way ((step : CertRecord) × HasForm s.0 step) (λ form. ⊎_elim
@@ -199,26 +201,26 @@ judge_rest matter limits text h (suc fuel) before rest enough faultless never =
         (split_line rest)
 
 -- No text is neither accepted nor refused.
-pub some_verdict : (matter : Matter) (limits : Limits) (text : List ℕ)
-    → ¬ ¬ (((h : Header) × (made : List Claim) × Accepted matter limits text h made)
-    ⊎ ((fault : CertFault) × Refusal matter limits text fault))
-some_verdict matter limits text never = first_or_none (HasFirstFault matter limits text) in_order (λ told. ⊎_elim
+pub some_verdict : (rules : Rules) → AreClear rules → (limits : Limits) (text : List ℕ)
+    → ¬ ¬ (((h : rules.Heading) × (steps : List CertRecord) × IsWhole rules limits text h steps)
+    ⊎ ((fault : CertFault) × IsRefusedWith rules limits text fault))
+some_verdict rules clear limits text never = first_or_none (HasHeadingFault rules limits text) in_order (λ told. ⊎_elim
     (λ found. never (inr (record { line = 1; cause = found.0 }, inl (record { line = refl; cause = found.1 }))))
-    (λ n. read_on (not_any (HasFirstFault matter limits text) n))
+    (λ n. read_on (not_any (HasHeadingFault rules limits text) n))
     told)
   where
     not_among : (earlier : List CertRecord) (step : CertRecord) (others : List CertRecord)
         → [] ≡ earlier ++ step ∷ others → ⊥
     not_among earlier step others e = let n = ap length e in omega (arith, n, length-append earlier (step ∷ others))
 
-    read_on : ((cause : CertCause) → ¬ HasFirstFault matter limits text cause) → ⊥
+    read_on : ((cause : CertCause) → ¬ HasHeadingFault rules limits text cause) → ⊥
     read_on none = ⊎_elim
-        (λ s. either_way ((h : Header) × HasHeaderForm s.0 h) (λ form. ⊎_elim
-        (λ f. judge_rest matter limits text f.0 (suc (length s.1)) [] s.1 (omega arith) (record {
+        (λ s. either_way ((h : rules.Heading) × rules.HasHeadingForm s.0 h) (λ form. ⊎_elim
+        (λ f. judge_rest rules limits text f.0 (suc (length s.1)) [] s.1 (omega arith) (record {
           reads = record {
-            text_is = s.2.ended ∙ ap (λ l. l ++ line_feed ∷ s.1) f.1.text
-                ∙ sym (append_assoc (header_text f.0) (line_feed ∷ []) s.1);
-            header = subst (λ l. HasHeaderForm l f.0) f.1.text f.1;
+            text_is = s.2.ended ∙ ap (λ l. l ++ line_feed ∷ s.1) (clear.heading_is s.0 f.0 f.1)
+                ∙ sym (append_assoc (rules.heading_text f.0) (line_feed ∷ []) s.1);
+            header = subst (λ l. rules.HasHeadingForm l f.0) (clear.heading_is s.0 f.0 f.1) f.1;
             records = All-nil (λ step. HasForm (record_text step) step);
           };
           first = none;

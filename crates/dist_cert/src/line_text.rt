@@ -30,7 +30,7 @@ fn add_literals(text: &mut Vec<u8>, literals: &[(u32, bool)]) -> Result<(), Allo
 }
 
 /// Adds numbers, each behind a space.
-fn add_numbers(text: &mut Vec<u8>, numbers: &[u32]) -> Result<(), AllocError>
+pub(crate) fn add_numbers(text: &mut Vec<u8>, numbers: &[u32]) -> Result<(), AllocError>
     ensures { OnOk result (text.new.items ≡ text.old.items ++ words_text (plains numbers.now)) }
 {
     for number in numbers {

@@ -4,7 +4,7 @@ ghost use Rattle.dist_base.specs.Ascii.{line_feed};
 ghost use Rattle.dist_outside.specs.Files.{IsReading};
 ghost use Rattle.dist_outside.specs.DeskView.{OnlyReads};
 ghost use Rattle.dist_outside.specs.Reading.{ReadCause};
-ghost use Rattle.dist_cert.specs.Refusal.{IsOneLine};
+ghost use Rattle.dist_cert.specs.FileLines.{IsOneLine};
 ghost use Rattle.dist_cert.specs.Reading.{WhereTold};
 ghost use Rattle.dist_cert.specs.Held.{Held};
 ghost use Rattle.dist_cert.specs.LineReadingPrivate.{held_text, text_held, IsReached, KeepsText, Ends, EndsAt, EndsOr, EndsAtSome, EndsOrSome, HasEnd, HasEndOr, LineCause, IsJudged};
@@ -35,7 +35,7 @@ pub(crate) struct Lines {
 
 impl Model for Lines {
     ghost use Rattle.dist_cert.specs.Held.{Held};
-    ghost use Rattle.dist_cert.specs.Refusal.{IsOneLine};
+    ghost use Rattle.dist_cert.specs.FileLines.{IsOneLine};
 
     ghost Value = { Held };
 

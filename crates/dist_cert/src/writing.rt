@@ -3,7 +3,7 @@ ghost use Rattle.std.specs.Prelude.{◌≡◌, ◌+◌, ◌≤◌, length, IfOk,
 ghost use Rattle.dist_outside.specs.Files.{IsWriting};
 ghost use Rattle.dist_outside.specs.DeskView.{FileGrew, FileGrewByFront};
 ghost use Rattle.dist_cert.specs.Form.{record_text, header_text, KeepsRules, KeepsLimit};
-ghost use Rattle.dist_cert.specs.Refusal.{IsOneLine};
+ghost use Rattle.dist_cert.specs.FileLines.{IsOneLine};
 ghost use Rattle.dist_cert.specs.Writing.{WriterView, PutAnswers, WritesNothing, ended, after_line};
 
 use crate::line_text::{add_header, add_line, add_record};

@@ -17,7 +17,7 @@ use Rattle.dist_cert.specs.ClaimRules.{Covers, yes}
 use Rattle.dist_cert.specs.Form.{Word}
 use Rattle.dist_cert.specs.Groups.{claim_count, installation_at, installations, installed_in}
 use Rattle.dist_cert.specs.Part.{IsQuestionOn}
-use Rattle.dist_cert.specs.Refusal.{lines_text}
+use Rattle.dist_cert.specs.FileLines.{lines_text}
 use Rattle.dist_space.specs.Space.{IsSpace, SpaceView, variable_of}
 use Rattle.dist_space.specs.VariableLaws.{place-at}
 use Rattle.dist_space.specs.declared.meaning.Meaning.TheVariants.{At, Present}

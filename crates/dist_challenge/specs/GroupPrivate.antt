@@ -14,7 +14,7 @@ use Rattle.dist_cert.specs.declared.records.Claim.{Claim}
 use Rattle.dist_cert.specs.ClaimRules.{Covers, IsCovered, SomeInstallation, yes}
 use Rattle.dist_cert.specs.Form.{AreFromOne, Word}
 use Rattle.dist_cert.specs.Groups as lines
-use Rattle.dist_cert.specs.Refusal.{lines_text}
+use Rattle.dist_cert.specs.FileLines.{lines_text}
 use Rattle.dist_space.specs.Space.{SpaceView, variable_of}
 use Rattle.dist_space.specs.declared.meaning.Meaning.TheVariants.{Present}
 use Rattle.dist_sweep.specs.Asking.{AskerView, IsAt}

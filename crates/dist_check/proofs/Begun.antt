@@ -1,5 +1,5 @@
 -- What a checker begins with behind a first line.
-use Rattle.std.proofs.Common.{◌≡◌, ◌≢◌, ◌↔◌, inl, inr, ℕ, ◌+◌, ◌-◌, ◌<◌, ◌≤◌, Bool, List, [], length, take, drop, None, Ok, Err, Result, refl, sym, ap}
+use Rattle.std.proofs.Common.{◌≡◌, ◌≢◌, ◌↔◌, inl, inr, ℕ, ◌+◌, ◌-◌, ◌<◌, ◌≤◌, Bool, List, [], length, take, drop, None, Err, refl, sym, ap}
 use Rattle.std.proofs.Common.{subst, ◌∙◌, arith}
 use Rattle.std.specs.Prelude.{All}
 use Rattle.std.proofs.lemmas.Bool.{cases_lt}
@@ -7,7 +7,7 @@ use Rattle.std.proofs.lemmas.List.{drop_all, length-take}
 use Rattle.std.proofs.lemmas.List.Elements.{All-drop, All-take}
 use Rattle.dist_outside.specs.declared.limits.Limits.{Limits}
 use Rattle.dist_outside.specs.declared.trouble.WorkError.TheVariants.{TooLarge, NoMemory}
-use Rattle.dist_clause.specs.ClauseList.{ClauseList, IsWithinLimits, literal_count}
+use Rattle.dist_clause.specs.ClauseList.{ClauseList, IsWithinLimits}
 use Rattle.dist_clause.specs.Formula.{Literal, IsClauseOver, IsModel, value_of}
 use Rattle.dist_derive.specs.ClauseLog.{ClauseLog, IsWithinLineLimits}
 use Rattle.dist_repo.specs.PackageList.{PackageList}
@@ -34,7 +34,7 @@ use Rattle.dist_subject.specs.Inputs.{AreInputsOf}
 use Rattle.dist_subject.specs.Limited.{PassesFirst}
 use Rattle.dist_subject.specs.MemberLaws.{model-alike, value-among}
 use Rattle.dist_subject.specs.Present.{present_matter, truth_of}
-use Rattle.dist_check.specs.AtPrivate.{AreFuturesBy}
+use Rattle.dist_check_state.specs.LinesAt.{AreFuturesBy}
 use Rattle.dist_check.specs.LaysOut.{IsCluster, LaysOut}
 use Rattle.dist_check.specs.Start.{IsStart, StartAnswers}
 use Rattle.dist_check.specs.StartPrivate.{HasNumbers, IsLargeFault, IsSubject}

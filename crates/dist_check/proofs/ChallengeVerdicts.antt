@@ -1,9 +1,9 @@
 -- The tests of a claim on challenges say what its rules say, where the variables are laid out as the matter numbers them.
-use Rattle.std.proofs.Common.{◌≡◌, ◌⊎◌, inl, inr, ℕ, ◌-◌, ◌<◌, ◌≤◌, ◌↔◌, ◌==◌, ◌&&◌, ◌||◌, Bool, true, false, not, List, [], ◌∷◌, ◌++◌, Option, Some}
+use Rattle.std.proofs.Common.{◌≡◌, ◌⊎◌, inl, inr, ℕ, ◌<◌, ◌≤◌, ◌↔◌, ◌==◌, ◌&&◌, ◌||◌, Bool, true, false, not, List, [], ◌∷◌, ◌++◌, Option, Some}
 use Rattle.std.proofs.Common.{None, filter, length, get_or, map, refl, sym, ap, subst, ◌∙◌, arith, nat_le, unwrap_or, if◌then◌else◌}
-use Rattle.std.specs.List.{All, AllPairs, Any, Contains, list_all, list_any}
+use Rattle.std.specs.List.{All, Any, Contains, list_all, list_any}
 use Rattle.std.proofs.lemmas.Bool.{true≢false, false≢true, and_parts, and_from, or_cases, or_left, or_right, eqb-true, eqb-false, eq-eqb, ne_eqb}
-use Rattle.std.proofs.lemmas.Bool.{not-true, not-false, not_from_false, not_from_true, le-leb, leb-true, false_from_ne_true}
+use Rattle.std.proofs.lemmas.Bool.{not-true, not_from_false, le-leb, leb-true, false_from_ne_true}
 use Rattle.std.proofs.lemmas.List.Elements.{All-append, All-contains, All-cons, All-head, All-tail, All-nil, Contains-append_left, Contains-append_right}
 use Rattle.std.proofs.lemmas.List.Elements.{Contains-append_cases}
 use Rattle.std.proofs.lemmas.List.Folds.{Any-from_list_any, list_any-from_Any}
@@ -21,9 +21,9 @@ use Rattle.dist_check_group.specs.Layout.{LayoutView, at_class, classes_of, clus
 use Rattle.dist_check_group.specs.Window.{WindowView, has_member, kept_at, members_at}
 use Rattle.dist_check_group.specs.Cover.{CoverView}
 use Rattle.dist_check_group.specs.Group.{GroupView, in_each}
-use Rattle.dist_check_group.specs.Challenge.{ArePairsRight, OmitsPair, PassesChallenge, TellsChallenge, first_used, is_covered, is_held, is_listed, is_pair_for}
+use Rattle.dist_check_group.specs.Challenge.{OmitsPair, PassesChallenge, TellsChallenge, first_used, is_covered, is_held, is_listed, is_pair_for}
 use Rattle.dist_check_group.specs.Challenge.{is_used, use_each}
-use Rattle.dist_check.specs.LaysOut.{IsCluster, IsPackageIn, IsPair, LaysOut}
+use Rattle.dist_check.specs.LaysOut.{IsCluster, IsPair, LaysOut}
 use Rattle.dist_check.specs.CoverPrivate.{IsCoverOf, IsUsedOf}
 use Rattle.dist_check.proofs.TestLemmas.{Tests, all-tested, any-tested}
 use Rattle.dist_check.proofs.Told.{IsTold, any-told, bool-told, number-told}

@@ -1,5 +1,5 @@
 -- What is told of a claim on challenges is its first fault, or that it has none.
-use Rattle.std.proofs.Common.{◌≡◌, ◌↔◌, ℕ, ◌+◌, ◌≤◌, Bool, true, false, List, [], ◌∷◌, Option, Some, None, refl, sym, ap, subst, ◌∙◌, arith}
+use Rattle.std.proofs.Common.{◌≡◌, ◌↔◌, ℕ, ◌≤◌, true, false, List, [], ◌∷◌, Option, Some, None, refl, sym, ap, subst, ◌∙◌, arith}
 use Rattle.std.proofs.lemmas.Bool.{true≢false, false≢true}
 use Rattle.dist_cert.specs.declared.faults.CertCause.{CertCause}
 use Rattle.dist_cert.specs.declared.faults.CertCause.TheVariants as causes
@@ -21,7 +21,7 @@ use Rattle.dist_check.specs.CoverPrivate.{IsCoverOf}
 use Rattle.dist_check.proofs.ChallengeVerdicts.{IsChallenge, IsFirstByRules, challenge-told}
 use Rattle.dist_check.proofs.ClosingVerdicts.{incomplete-verdict, listed-verdict, next-is, next-within, on-challenged, present-next}
 use Rattle.dist_check.proofs.ClosingVerdicts.{right-verdict, wrong-verdict}
-use Rattle.dist_check.proofs.Verdicts.{IsVerdict}
+use Rattle.dist_check_state.specs.VerdictLaws.{IsVerdict}
 use Rattle.dist_check.proofs.WindowLemmas.{kept-recent, member-tests}
 
 -- a claim of another kind does not hold

@@ -1,46 +1,47 @@
 -- What holds at each line of a text that is checked.
-use Rattle.std.proofs.Common.{◌≡◌, inr, ℕ, ◌+◌, ◌<◌, ◌≤◌, ◌^◌, List, [], ◌∷◌, Option, Some, None, Ok, Err, length, drop, refl, sym, ap, subst, ◌∙◌, arith}
+use Rattle.std.proofs.Common.{◌≡◌, ◌≢◌, ℕ, ◌+◌, ◌<◌, ◌≤◌, ◌^◌, List, [], ◌∷◌, ◌++◌, Option, Some, None, Ok, Err, length, drop, refl, ap, ◌∙◌, arith}
 use Rattle.std.proofs.lemmas.List.{drop_at}
 use Rattle.dist_outside.specs.DeskView.{DeskView}
 use Rattle.dist_outside.specs.declared.limits.Limits.{Limits}
-use Rattle.dist_outside.specs.declared.trouble.What.TheVariants.{Certificate}
-use Rattle.dist_outside.specs.declared.trouble.WorkError.TheVariants.{ReadFault, WriteFault, TooLarge, NoMemory}
+use Rattle.dist_outside.specs.declared.trouble.What.TheVariants.{Lines, LineLiterals}
+use Rattle.dist_outside.specs.declared.trouble.WorkError.{WorkError}
+use Rattle.dist_outside.specs.declared.trouble.WorkError.TheVariants.{TooLarge, NoMemory}
 use Rattle.dist_clause.specs.ClauseList.{literal_count}
 use Rattle.dist_clause.specs.Formula.{Literal}
-use Rattle.dist_derive.specs.ClauseLog.{lines_of}
+use Rattle.dist_derive.specs.ClauseLog.{ClauseLog, IsWithinLineLimits, lines_of}
 use Rattle.dist_repo.specs.PackageList.{PackageList}
 use Rattle.dist_cert.specs.declared.faults.ReadCertError.{ReadCertError}
 use Rattle.dist_cert.specs.declared.faults.ReadCertError.TheVariants.{Bad, Work}
 use Rattle.dist_cert.specs.declared.records.CertRecord.{CertRecord}
 use Rattle.dist_cert.specs.declared.records.CertRecord.TheVariants as lines
-use Rattle.dist_cert.specs.declared.records.Claim.{Claim}
 use Rattle.dist_cert.specs.declared.records.Header.{Header}
+use Rattle.dist_cert.specs.Accepted.{claims_in}
 use Rattle.dist_cert.specs.ClearFormsLaws.{FormsAreClear}
 use Rattle.dist_cert.specs.Groups.{derived, installations}
-use Rattle.dist_cert.specs.Reading.{ReaderView, WhereTold, PassesWhole, RecordAnswers, RecordCause}
-use Rattle.dist_cert.specs.Refusal.{IsTooLong, certificate_text, AreFaultless}
-use Rattle.dist_check.specs.Checking.{IsReached, TextAnswers, OfText}
-use Rattle.dist_subject.specs.Completed.{KeepsNumbers, IsCompleted}
+use Rattle.dist_cert.specs.Reading.{ReaderView, WhereTold, RecordAnswers, RecordCause, RecordOfSome, GivesRecord}
+use Rattle.dist_cert.specs.Refusal.{certificate_text}
+use Rattle.dist_judge.specs.Judging.{FillsLines, FillsLiterals, OfText, StopsWith}
+use Rattle.dist_judge.specs.LineLaws.{IsFaultless}
+use Rattle.dist_judge.specs.ReadingLaws as reading
 use Rattle.dist_subject.specs.Basis.{matter_of}
-use Rattle.dist_check_state.specs.State.{StateView}
-use Rattle.dist_check.proofs.CheckLemmas.{ended-from, record-refused, end-none}
-use Rattle.dist_check.specs.CheckedPrivate.{TextAt, IsChecked}
+use Rattle.dist_subject.specs.Certificates.{certificates_of}
+use Rattle.dist_subject.specs.Completed.{IsCompleted}
+use Rattle.dist_check_state.specs.State.{StateView, Tells, StopsAt, LineStops, TakesLine}
+use Rattle.dist_check.specs.CheckedPrivate.{IsChecked}
+use Rattle.dist_check.proofs.ClearKind.{clear-kind}
+use Rattle.dist_check.proofs.Next.{becomes-at, told-verdict}
 
-pub lines-are : (r : PackageList) (limits : Limits) (told : Option (List ℕ)) (h : Header) (reader : ReaderView) (left : Option (List ℕ)) (s : StateView)
-    (x : IsChecked r limits told h reader left s) → lines_of s.log ≡ derived x.before
-lines-are r limits told h reader left s x =
-    ap (λ (n : ℕ). drop n s.log.clauses) x.at.inputs_are ∙ ap (λ (cs : List (List Literal)). drop (length (matter_of r x.basis).inputs) cs) x.at.clauses
-    ∙ drop_at (matter_of r x.basis).inputs (derived x.before) (length (matter_of r x.basis).inputs) refl
-
-pub numbers-of : (r : PackageList) (limits : Limits) (told : Option (List ℕ)) (h : Header) (reader : ReaderView) (left : Option (List ℕ)) (s : StateView)
-    (x : IsChecked r limits told h reader left s) → reader.given ≤ reader.limits.certificate
-    → KeepsNumbers limits r x.basis h x.before
-numbers-of r limits told h reader left s x bytes = record {
-  inputs = x.kept;
-  derived_lines = omega (arith, x.within.lines_within, x.line_limit, ap (λ (cs : List (List Literal)). length cs) (lines-are r limits told h reader left s x));
-  line_literals = omega (arith, x.within.literals_within, x.line_literal_limit, ap literal_count (lines-are r limits told h reader left s x));
-  bytes = omega (arith, bytes, x.given, ap (λ (l : Limits). l.certificate) x.limits_are);
-}
+-- the derived lines that are kept are within the numbers
+pub lines-kept : (inputs : List (List Literal)) (steps : List CertRecord) (log : ClauseLog) (lines literals : ℕ) → log.clauses ≡ inputs ++ derived steps
+    → log.inputs ≡ length inputs → log.line_limit ≡ lines → log.line_literal_limit ≡ literals → IsWithinLineLimits log
+    → (length (derived steps) ≤ lines) × (literal_count (derived steps) ≤ literals) × (lines_of log ≡ derived steps)
+lines-kept inputs steps log lines literals clauses count line_limit literal_limit within =
+    let are : lines_of log ≡ derived steps = ap (λ (n : ℕ). drop n log.clauses) count ∙ ap (λ (cs : List (List Literal)). drop (length inputs) cs) clauses
+    ∙ drop_at inputs (derived steps) (length inputs) refl in (
+      omega (arith, within.lines_within, line_limit, ap (λ (cs : List (List Literal)). length cs) are),
+      omega (arith, within.literals_within, literal_limit, ap literal_count are),
+      are,
+    )
 
 -- how many installations there may be
 few-installations : (lines : List CertRecord) → length (installations lines) ≤ length lines
@@ -51,65 +52,98 @@ few-installations (step ∷ steps) = let rest = few-installations steps in omega
 pub count-fits : (r : PackageList) (limits : Limits) (told : Option (List ℕ)) (h : Header) (reader : ReaderView) (left : Option (List ℕ)) (s : StateView)
     → IsChecked r limits told h reader left s → (line : ℕ) → line ≡ reader.lines + 1
     → line < 2 ^ 64 → s.window.count + 1 < 2 ^ 64
-count-fits r limits told h reader left s x line is fits = omega (arith, x.at.count, few-installations x.before, x.line_count, is, fits)
+count-fits r limits told h reader left s x line is fits = omega (arith, x.at.count, few-installations x.before, x.read.line_count, is, fits)
 
--- ---- a line that is not read
+-- the text of the lines that were read, with any bytes behind them
+pub at-bytes : (r : PackageList) (limits : Limits) (h : Header) (reader : ReaderView) (s : StateView) (x : IsChecked r limits None h reader None s)
+    (rest : List ℕ) → IsChecked r limits (Some (certificate_text h x.before ++ rest)) h reader (Some rest) s
+at-bytes r limits h reader s x rest = record {
+  basis = x.basis;
+  before = x.before;
+  read = reading.at_bytes (certificates_of r) limits x.basis h x.before reader rest x.read;
+  inputs_mean = x.inputs_mean;
+  at = x.at;
+  line_limit = x.line_limit;
+  line_literal_limit = x.line_literal_limit;
+  within = x.within;
+}
 
-pub next-stops : FormsAreClear → (r : PackageList) (limits : Limits) (told : Option (List ℕ)) (h : Header) (reader next : ReaderView)
-    (left after : Option (List ℕ)) (s : StateView) (old new : DeskView) → IsChecked r limits told h reader left s
-    → reader.given ≤ reader.limits.certificate → {X : Type 0} (header : X → Header) (claims : X → List Claim) (error : ReadCertError)
-    → WhereTold left after (λ rest more. RecordAnswers reader rest more (Err error))
-    → RecordCause reader next old new (Err error) → OfText told (λ text. TextAnswers header claims r limits text (Err error))
-next-stops clear r limits told h reader next left after s old new x bytes {X} header claims error answers cause = by told x.text
-  where
-    reached : (text rest : List ℕ) → AreFaultless (matter_of r x.basis) limits text h x.before rest → IsReached r x.basis limits text h x.before rest
-    reached text rest faultless = record { is_basis = x.is_basis; faultless = faultless; numbers = numbers-of r limits told h reader left s x bytes }
+-- ---- the next line
 
-    whole : (rest : List ℕ) → PassesWhole reader.limits reader.given rest → PassesWhole limits (length (certificate_text h x.before)) rest
-    whole rest passes = subst (λ n. PassesWhole limits n rest) x.given (subst (λ l. PassesWhole l reader.given rest) x.limits_are passes)
+-- no other number is passed
+pub no-other : (s : StateView) (step : CertRecord) (error : WorkError) → StopsAt s step error → error ≢ NoMemory → error ≢ TooLarge Lines
+    → error ≢ TooLarge LineLiterals → ⊥
+no-other s (lines.Derived literals hints) (TooLarge Lines) stops memory_not lines_not literals_not = lines_not refl
+no-other s (lines.Derived literals hints) (TooLarge LineLiterals) stops memory_not lines_not literals_not = literals_not refl
+no-other s (lines.Derived literals hints) NoMemory stops memory_not lines_not literals_not = memory_not refl
+no-other s (lines.Derived literals hints) error stops memory_not lines_not literals_not = stops
+no-other s step error stops memory_not lines_not literals_not = memory_not stops
 
-    at : (text rest more : List ℕ) → AreFaultless (matter_of r x.basis) limits text h x.before rest → (e : ReadCertError)
-        → RecordAnswers reader rest more (Err e) → RecordCause reader next old new (Err e)
-        → TextAnswers header claims r limits text (Err e)
-    at text rest more faultless (Bad fault) answer because =
-        inr (record-refused clear r x.basis limits text h x.before rest reader (reached text rest faultless) x.limits_are x.given x.ended fault
-        (omega (arith, because.0, x.line_count)) answer.0)
-    at text rest more faultless (Work ReadFault) answer because = tt
-    at text rest more faultless (Work NoMemory) answer because = tt
-    at text rest more faultless (Work WriteFault) answer because = because
-    at text rest more faultless (Work (TooLarge Certificate)) answer because =
-        inr (record { basis = x.basis; h = h; before = x.before; rest = rest; reached = reached text rest faultless; passes = whole rest answer.0 })
-    at text rest more faultless (Work (TooLarge what)) answer because = absurd because
+module _ (clear : FormsAreClear) (r : PackageList) (limits : Limits) (told : Option (List ℕ)) (h : Header) (reader : ReaderView) (left : Option (List ℕ))
+    (s : StateView) (x : IsChecked r limits told h reader left s) (bytes : reader.given ≤ reader.limits.certificate) where
+  pub next-stops : (next : ReaderView) (after : Option (List ℕ)) (old new : DeskView) (error : ReadCertError)
+      → WhereTold left after (λ rest more. RecordAnswers reader rest more (Err error)) → RecordCause reader next old new (Err error)
+      → OfText told (λ text. StopsWith (certificates_of r) limits text error)
+  next-stops = reading.next_stops (certificates_of r) (clear-kind clear r) limits told x.basis h x.before reader left x.read bytes
 
-    by : (t : Option (List ℕ)) → TextAt (matter_of r x.basis) limits h x.before t left → OfText t (λ text. TextAnswers header claims r limits text (Err error))
-    by None here = tt
-    by (Some text) here =
-        let answer = subst (λ l. WhereTold l after (λ rest more. RecordAnswers reader rest more (Err error))) here.1 answers in
-        at text here.0 answer.0 here.2 error answer.2 cause
+  pub completes : (after : Option (List ℕ)) → WhereTold left after (λ rest more. RecordAnswers reader rest more (Ok None))
+      → OfText told (λ text. IsCompleted r limits text h s.claims)
+  completes after answers = reading.completes (certificates_of r) (clear-kind clear r) limits told x.basis h x.before reader left x.read bytes after answers
+      (λ basis steps. s.claims ≡ claims_in steps) x.at.claims
 
--- ---- the end
+  module _ (next : ReaderView) (after : Option (List ℕ)) (old new : DeskView) (step : CertRecord)
+      (answers : WhereTold left after (λ rest more. RecordAnswers reader rest more (Ok (Some step))))
+      (because : RecordCause reader next old new (Ok (Some step))) where
+    faultless-line : Tells s step None → IsFaultless (certificates_of r) x.basis h x.before step
+    faultless-line none =
+        told-verdict (matter_of r x.basis) h x.before s x.at x.read.faultless x.read.forms x.inputs_mean step because.0.rules None none
 
-pub completes : FormsAreClear → (r : PackageList) (limits : Limits) (told : Option (List ℕ)) (h : Header) (reader : ReaderView) (left after : Option (List ℕ))
-    (s : StateView) → IsChecked r limits told h reader left s
-    → reader.given ≤ reader.limits.certificate → WhereTold left after (λ rest more. RecordAnswers reader rest more (Ok None))
-    → OfText told (λ text. IsCompleted r limits text h s.claims)
-completes clear r limits told h reader left after s x bytes answers = by told x.text
-  where
-    by : (t : Option (List ℕ)) → TextAt (matter_of r x.basis) limits h x.before t left → OfText t (λ text. IsCompleted r limits text h s.claims)
-    by None here = tt
-    by (Some text) here =
-        let answer = subst (λ l. WhereTold l after (λ rest more. RecordAnswers reader rest more (Ok None))) here.1 answers in
-        let end = answer.2.0 in
-        let ended = ended-from x.before (sym x.ended ∙ end.ended) in
-        let faultless = subst (AreFaultless (matter_of r x.basis) limits text h x.before) end.nothing here.2 in record {
+    derives : (line : CertRecord) → StopsAt s line (TooLarge Lines) → reading.DerivesPassing x.before (FillsLines limits) line
+    derives (lines.Derived literals hints) stops =
+        let kept = lines-kept (matter_of r x.basis).inputs x.before s.log limits.lines limits.line_literals x.at.clauses x.at.inputs_are x.line_limit
+        x.line_literal_limit x.within in
+        omega (arith, stops, x.line_limit, ap (λ (cs : List (List Literal)). length cs) kept.2)
+    derives line stops = absurd (let e = stops in cc)
+
+    derives-literals : (line : CertRecord) → StopsAt s line (TooLarge LineLiterals) → reading.DerivesPassing x.before (FillsLiterals limits) line
+    derives-literals (lines.Derived literals hints) stops =
+        let kept = lines-kept (matter_of r x.basis).inputs x.before s.log limits.lines limits.line_literals x.at.clauses x.at.inputs_are x.line_limit
+        x.line_literal_limit x.within in (
+          omega (arith, stops.0, x.line_limit, ap (λ (cs : List (List Literal)). length cs) kept.2),
+          omega (arith, stops.1, x.line_literal_limit, ap literal_count kept.2),
+        )
+    derives-literals line stops = absurd (let e = stops in cc)
+
+    to-stop : (line : ℕ) (error : ReadCertError) → LineStops s step line error
+        → reading.LineStops (certificates_of r) limits x.basis h x.before step line error
+    to-stop line (Bad fault) stops = (
+      stops.0,
+      told-verdict (matter_of r x.basis) h x.before s x.at x.read.faultless x.read.forms x.inputs_mean step because.0.rules (Some fault.cause) stops.1,
+    )
+    to-stop line (Work NoMemory) stops = tt
+    to-stop line (Work (TooLarge Lines)) stops = (faultless-line stops.0, derives step stops.1)
+    to-stop line (Work (TooLarge LineLiterals)) stops = (faultless-line stops.0, derives-literals step stops.1)
+    to-stop line (Work error) stops = no-other s step error stops.1 (λ e. cc) (λ e. cc) (λ e. cc)
+
+    pub line-stops : (line : ℕ) → line ≡ reader.lines + 1 → (error : ReadCertError) → LineStops s step line error
+        → OfText told (λ text. StopsWith (certificates_of r) limits text error)
+    line-stops line number error stops = reading.line_stops (certificates_of r) (clear-kind clear r) limits told x.basis h x.before reader left x.read bytes
+        after step line error answers number (to-stop line error stops)
+
+    pub next-checked : RecordOfSome reader (Ok (Some step)) → GivesRecord reader next (Ok (Some step)) → (t : StateView) → TakesLine s step t
+        → t.log.line_limit ≡ s.log.line_limit → t.log.line_literal_limit ≡ s.log.line_literal_limit
+        → IsChecked r limits told h next after t
+    next-checked some gives t takes line_limit line_literal_limit =
+        let at = becomes-at (matter_of r x.basis) h x.before s t x.at step takes.none takes.becomes in
+        let kept = lines-kept (matter_of r x.basis).inputs (x.before ++ step ∷ []) t.log limits.lines limits.line_literals at.clauses at.inputs_are
+        (line_limit ∙ x.line_limit) (line_literal_limit ∙ x.line_literal_limit) takes.within in record {
           basis = x.basis;
-          is_basis = x.is_basis;
-          steps = x.before;
-          accepted = record {
-            faultless = faultless;
-            ends = end-none r x.basis limits h x.before (λ long. end.limits.line
-                (subst (λ bs. IsTooLong reader.limits bs) (sym end.nothing) (subst (λ l. IsTooLong l []) (sym x.limits_are) long))) ended;
-          };
-          claims = x.at.claims;
-          numbers = numbers-of r limits told h reader left s x bytes;
+          before = x.before ++ step ∷ [];
+          read = reading.next_read (certificates_of r) (clear-kind clear r) limits told x.basis h x.before reader left x.read bytes next after old new step
+              answers because some gives (faultless-line takes.none) kept.0 kept.1;
+          inputs_mean = x.inputs_mean;
+          at = at;
+          line_limit = line_limit ∙ x.line_limit;
+          line_literal_limit = line_literal_limit ∙ x.line_literal_limit;
+          within = takes.within;
         }

@@ -1,57 +1,30 @@
 -- What a text's check takes from the check of its lines.
-use Rattle.std.proofs.Common.{◌≡◌, ℕ, List, [], Option, Some, None, Ok, Err, refl, sym, ap, subst, ◌∙◌}
+use Rattle.std.proofs.Common.{◌≡◌, ℕ, List, Option, Some, None, Ok, sym, subst}
 use Rattle.dist_outside.specs.DeskView.{DeskView, OnlyReads}
-use Rattle.dist_outside.specs.Reading.{bytes_left}
 use Rattle.dist_outside.specs.declared.limits.Limits.{Limits}
-use Rattle.dist_outside.specs.declared.trouble.What.TheVariants.{Variables, Clauses, Literals, Lines, LineLiterals, Certificate}
 use Rattle.dist_outside.specs.declared.trouble.WorkError.TheVariants.{ReadFault, WriteFault, TooLarge, NoMemory}
+use Rattle.dist_repo.specs.Order.{IsInOrder}
 use Rattle.dist_repo.specs.PackageList.{PackageList}
 use Rattle.dist_cert.specs.declared.faults.ReadCertError.{ReadCertError}
 use Rattle.dist_cert.specs.declared.faults.ReadCertError.TheVariants.{Bad, Work}
 use Rattle.dist_cert.specs.declared.records.Claim.{Claim}
 use Rattle.dist_cert.specs.declared.records.Header.{Header}
-use Rattle.dist_cert.specs.Reading.{ReaderView, in_front, text_left}
-use Rattle.dist_check.specs.Checking.{TextAnswers, TextCause, OfText}
+use Rattle.dist_judge.specs.Judging.{OfText, StopsWith}
+use Rattle.dist_judge.specs.ReadingLaws.{rose_from}
 use Rattle.dist_subject.specs.Basis.{IsAccepted}
+use Rattle.dist_subject.specs.Certificates.{certificates_of}
 use Rattle.dist_subject.specs.Completed.{IsCompleted}
 use Rattle.dist_check.specs.Answers.{AcceptedMeans}
+use Rattle.dist_check.specs.Checking.{TextAnswers, TextCause}
 use Rattle.dist_check.specs.Means.{Means}
 use Rattle.dist_check.specs.Start.{IsStart}
 use Rattle.dist_check_state.specs.State.{StateView}
-use Rattle.dist_repo.specs.Order.{IsInOrder}
-use Rattle.dist_check.proofs.CheckSteps.{new_reader, rose-from}
-
--- nothing is held before the first line
-pub nothing-read : (limits : Limits) (reader : ReaderView) (v : DeskView) → reader ≡ new_reader limits → text_left reader v ≡ bytes_left v.files v.mode
-nothing-read limits reader v is = ap (λ (r : ReaderView). text_left r v) is ∙ by (bytes_left v.files v.mode)
-  where
-    by : (o : Option (List ℕ)) → in_front [] o ≡ o
-    by None = refl
-    by (Some bytes) = refl
-
--- when a text stops is told whatever would be made of it
-pub stops-alike : {X Y : Type 0} (header : X → Header) (claims : X → List Claim) (to_header : Y → Header) (to_claims : Y → List Claim) (r : PackageList)
-    (limits : Limits) (told : Option (List ℕ)) (error : ReadCertError)
-    → OfText told (λ text. TextAnswers header claims r limits text (Err error))
-    → OfText told (λ text. TextAnswers to_header to_claims r limits text (Err error))
-stops-alike header claims to_header to_claims r limits None error stops = tt
-stops-alike header claims to_header to_claims r limits (Some text) (Bad fault) stops = stops
-stops-alike header claims to_header to_claims r limits (Some text) (Work ReadFault) stops = tt
-stops-alike header claims to_header to_claims r limits (Some text) (Work NoMemory) stops = tt
-stops-alike header claims to_header to_claims r limits (Some text) (Work WriteFault) stops = stops
-stops-alike header claims to_header to_claims r limits (Some text) (Work (TooLarge Variables)) stops = stops
-stops-alike header claims to_header to_claims r limits (Some text) (Work (TooLarge Clauses)) stops = stops
-stops-alike header claims to_header to_claims r limits (Some text) (Work (TooLarge Literals)) stops = stops
-stops-alike header claims to_header to_claims r limits (Some text) (Work (TooLarge Lines)) stops = stops
-stops-alike header claims to_header to_claims r limits (Some text) (Work (TooLarge LineLiterals)) stops = stops
-stops-alike header claims to_header to_claims r limits (Some text) (Work (TooLarge Certificate)) stops = stops
-stops-alike header claims to_header to_claims r limits (Some text) (Work (TooLarge what)) stops = absurd stops
 
 -- want of memory may come at any text
-pub no-memory : {X : Type 0} (header : X → Header) (claims : X → List Claim) (r : PackageList) (limits : Limits) (told : Option (List ℕ))
-    → OfText told (λ text. TextAnswers header claims r limits text (Err (Work NoMemory)))
-no-memory header claims r limits None = tt
-no-memory header claims r limits (Some text) = tt
+pub no-memory : (r : PackageList) (limits : Limits) (told : Option (List ℕ))
+    → OfText told (λ text. StopsWith (certificates_of r) limits text (Work NoMemory))
+no-memory r limits None = tt
+no-memory r limits (Some text) = tt
 
 -- a completed text, of which the claims are these
 pub completed-alike : {X : Type 0} (header : X → Header) (claims : X → List Claim) (r : PackageList) (limits : Limits) (told : Option (List ℕ)) (h : Header)
@@ -66,7 +39,7 @@ pub later-cause : (entry old new : DeskView) (error : ReadCertError) → OnlyRea
     → TextCause entry new error
 later-cause entry old new (Bad fault) first second cause = tt
 later-cause entry old new (Work ReadFault) first second cause =
-    rose-from entry.read_faults old.read_faults new.read_faults first.read_faults_stand second.read_faults_stand cause
+    rose_from entry.read_faults old.read_faults new.read_faults first.read_faults_stand second.read_faults_stand cause
 later-cause entry old new (Work WriteFault) first second cause = cause
 later-cause entry old new (Work NoMemory) first second cause = tt
 later-cause entry old new (Work (TooLarge what)) first second cause = cause

@@ -1,11 +1,11 @@
 -- What a claim without a fault says is true.
-use Rattle.std.proofs.Common.{◌≡◌, ◌≢◌, ◌⊎◌, inl, inr, ⊎_elim, ℕ, ◌+◌, ◌-◌, ◌<◌, ◌≤◌, Bool, true, false, List, [], ◌∷◌, ◌++◌, length, get_or, map, Some, refl}
+use Rattle.std.proofs.Common.{◌≡◌, ◌≢◌, inl, inr, ⊎_elim, ℕ, ◌+◌, ◌-◌, ◌<◌, ◌≤◌, Bool, true, false, List, [], ◌∷◌, ◌++◌, length, get_or, map, Some, refl}
 use Rattle.std.proofs.Common.{sym, ap, subst, ◌∙◌, arith, slice_get}
 use Rattle.std.specs.List.{All, Any, Contains}
-use Rattle.std.proofs.lemmas.Bool.{cases_eq, false≢true}
+use Rattle.std.proofs.lemmas.Bool.{false≢true}
 use Rattle.std.proofs.lemmas.List.Elements.{All-contains, Contains-append_left, Contains-append_right, Contains-append_cases}
 use Rattle.std.proofs.lemmas.Option.{slice_get_within}
-use Rattle.dist_base.specs.ListLaws.{all-contained, any-cases, any-head}
+use Rattle.dist_base.specs.ListLaws.{all-contained, any-cases}
 use Rattle.dist_clause.specs.Formula.{Literal, literal, negation, IsTrueLiteral, MakesTrue, IsModel, value_of}
 use Rattle.dist_repo.specs.Order.{IsInOrder}
 use Rattle.dist_repo.specs.PackageList.{PackageList}
@@ -30,7 +30,8 @@ use Rattle.dist_subject.specs.Claims.{NamesOthers}
 use Rattle.dist_check.specs.Means.{SaysStrong}
 use Rattle.dist_check.proofs.Told.{IsTold, stable, most-told, less-told, bool-told, number-told}
 use Rattle.dist_check.proofs.Places.{contains-map, image-of}
-use Rattle.dist_check.specs.CheckedPrivate.{AreRight, HaveForms}
+use Rattle.dist_judge.specs.LineLaws.{HaveForms}
+use Rattle.dist_check.specs.CheckedPrivate.{AreRight}
 use Rattle.dist_check.proofs.LineLemmas.{IsSoundRule, refuted-true}
 use Rattle.dist_check.proofs.GroupLemmas.{group-behind, installation-healthy, recent-there}
 use Rattle.dist_subject.specs.MemberLaws.{member-from, member-at, package-there, variable-there}

@@ -1,15 +1,12 @@
 -- The same of lines that close a question as undecided, of claims that are no strong ones, and of the end.
-use Rattle.std.proofs.Common.{◌≡◌, ◌≢◌, ◌⊎◌, ◌↔◌, ◌&&◌, not, inl, inr, ℕ, ◌+◌, ◌<◌, ◌≤◌, Bool, true, false, List, [], ◌∷◌, ◌++◌}
-use Rattle.std.proofs.Common.{Option, Some, None, length, refl}
+use Rattle.std.proofs.Common.{◌≡◌, ◌≢◌, ◌⊎◌, ◌↔◌, ◌&&◌, not, inl, inr, ℕ, ◌+◌, ◌<◌, ◌≤◌, Bool, true, false, List, [], ◌∷◌}
+use Rattle.std.proofs.Common.{Option, Some, None, refl}
 use Rattle.std.proofs.Common.{sym, ap}
-use Rattle.std.proofs.Common.{subst, ◌∙◌, append_assoc, arith, length-append}
+use Rattle.std.proofs.Common.{subst, ◌∙◌, arith}
 use Rattle.std.specs.List.{Any}
 use Rattle.std.proofs.lemmas.Bool.{false≢true, and_parts, and_cases, eqb-true, eqb-false, leb-true, leb-false}
-use Rattle.std.proofs.lemmas.Grind.{flat_map-append}
 use Rattle.std.proofs.lemmas.List.Elements.{All-cons, All-nil}
 use Rattle.dist_base.specs.ListLaws.{any-cases, any-head}
-use Rattle.dist_clause.specs.Formula.{Literal}
-use Rattle.dist_derive.specs.New.{AreNewFrom, EachIsNew}
 use Rattle.dist_cert.specs.declared.faults.CertCause.{CertCause}
 use Rattle.dist_cert.specs.declared.faults.CertCause.TheVariants as causes
 use Rattle.dist_cert.specs.declared.records.CertKind.{CertKind}
@@ -17,129 +14,31 @@ use Rattle.dist_cert.specs.declared.records.CertKind.TheVariants as kinds
 use Rattle.dist_cert.specs.declared.records.CertRecord.{CertRecord}
 use Rattle.dist_cert.specs.declared.records.CertRecord.TheVariants as lines
 use Rattle.dist_cert.specs.declared.records.Header.{Header}
-use Rattle.dist_cert.specs.Form.{Word}
-use Rattle.dist_cert.specs.Groups.{clause_of, derived, derived_in, claim_count, is_claim, group, IsOpen, IsRefutedIn, IsUndecidedIn}
+use Rattle.dist_cert.specs.Groups.{claim_count, is_claim, group, IsRefutedIn, IsUndecidedIn}
 use Rattle.dist_cert.specs.Subject.{Matter}
 use Rattle.dist_cert.specs.ClaimRules.{yes, claim_question, HoldsClaim, IsNamed}
 use Rattle.dist_cert.specs.LineRules.{HasRecordFault}
 use Rattle.dist_check_group.specs.Layout.{present}
 use Rattle.dist_check_group.specs.Window.{has_member, kept_at}
-use Rattle.dist_check_state.specs.State.{QuestionView, StateView, is_next, is_outdated, holds_alive, holds_outdated, holds_uninstallable, TellsUndecided}
+use Rattle.dist_check_state.specs.State.{StateView, is_next, is_outdated, holds_alive, holds_outdated, holds_uninstallable}
 use Rattle.dist_check_state.specs.State.{TellsClaim, TellsEnd, TellsListed}
-use Rattle.dist_check.specs.AtPrivate.{IsQuestionOf, IsAt, own_question}
+use Rattle.dist_check.specs.AtPrivate.{IsAt, own_question}
 use Rattle.dist_check.proofs.WindowLemmas.{member-tests}
-use Rattle.dist_check.proofs.Profile.{rank, may_have, faultless-from, first-from}
-use Rattle.dist_cert.specs.GroupLaws.{one-open}
-use Rattle.dist_check.proofs.Verdicts.{IsVerdict, each-new, new-from-each}
-
--- the clauses of the lines before are those before the open question and those since
-pub since-question : (inputs : List (List Literal)) (before earlier : List CertRecord) (question : List Word) (since : List CertRecord)
-    → IsOpen before earlier question since
-    → inputs ++ derived before ≡ (inputs ++ derived earlier) ++ derived since
-since-question inputs before earlier question since x =
-    ap (λ (ls : List CertRecord). inputs ++ derived ls) x.ends
-    ∙ ap (λ (cs : List (List Literal)). inputs ++ cs) (flat_map-append derived_in earlier (lines.Question question ∷ since))
-    ∙ sym (append_assoc inputs (derived earlier) (derived since))
-
-pub undecided-verdict : (matter : Matter) (h : Header) (before : List CertRecord) (s : StateView)
-    → IsAt matter h before s → (question : Option QuestionView)
-    → IsQuestionOf matter.inputs before question → (found : Option CertCause) → TellsUndecided s.log s.limit question found
-    → IsVerdict matter h before lines.Undecided found
-undecided-verdict matter h before s at None q found told =
-    subst (IsVerdict matter h before lines.Undecided) (sym told)
-    (first-from matter h before lines.Undecided causes.OutOfOrder q none)
-  where
-    none : (cause : CertCause) → may_have lines.Undecided cause ≡ true → rank cause < 5
-        → ¬ HasRecordFault matter h before lines.Undecided cause
-    none causes.OutOfOrder may below fault = omega (arith, below)
-    none causes.LimitNotReached may below fault = omega (arith, below)
-    none causes.NotNew may below fault = omega (arith, below)
-    none cause may below fault = false≢true may
-undecided-verdict matter h before s at (Some question) q found told = by found told
-  where
-    split : s.log.clauses ≡ (matter.inputs ++ derived q.0) ++ derived q.1
-    split = at.clauses ∙ since-question matter.inputs before q.0 question.assumptions q.1 q.2
-
-    size : length s.log.clauses ≡ question.last + length (derived q.1)
-    size = ap (λ (cs : List (List Literal)). length cs) split ∙ length-append (matter.inputs ++ derived q.0) (derived q.1)
-        ∙ ap (λ (n : ℕ). n + length (derived q.1)) (sym q.3)
-
-    in-order : ¬ HasRecordFault matter h before lines.Undecided causes.OutOfOrder
-    in-order fault = fault (q.0, question.assumptions, q.1, q.2)
-
-    late : question.last + s.limit ≤ length s.log.clauses → ¬ HasRecordFault matter h before lines.Undecided causes.LimitNotReached
-    late enough fault =
-        let one = one-open before fault.0 q.0 fault.1 question.assumptions fault.2 q.1 fault.3 q.2 in
-        let same : length (derived fault.2) ≡ length (derived q.1) = ap (λ (ls : List CertRecord). length (derived ls)) one.2 in
-        omega (arith, enough, fault.4, same, size, at.limit)
-
-    early : length s.log.clauses < question.last + s.limit → HasRecordFault matter h before lines.Undecided causes.LimitNotReached
-    early few = (q.0, question.assumptions, q.1, q.2, omega (arith, few, size, at.limit))
-
-    new : AreNewFrom s.log.clauses s.log.inputs (clause_of question.assumptions) question.last
-        → EachIsNew (matter.inputs ++ derived q.0) (length matter.inputs) (clause_of question.assumptions) (derived q.1)
-    new were =
-        each-new (length matter.inputs) (clause_of question.assumptions) (matter.inputs ++ derived q.0) (derived q.1)
-        (subst (λ n. AreNewFrom ((matter.inputs ++ derived q.0) ++ derived q.1) (length matter.inputs) (clause_of question.assumptions) n) q.3
-        (subst (λ n. AreNewFrom ((matter.inputs ++ derived q.0) ++ derived q.1) n (clause_of question.assumptions) question.last) at.inputs_are
-        (subst (λ cs. AreNewFrom cs s.log.inputs (clause_of question.assumptions) question.last) split were)))
-
-    were-new : EachIsNew (matter.inputs ++ derived q.0) (length matter.inputs) (clause_of question.assumptions) (derived q.1)
-        → AreNewFrom s.log.clauses s.log.inputs (clause_of question.assumptions) question.last
-    were-new each =
-        subst (λ cs. AreNewFrom cs s.log.inputs (clause_of question.assumptions) question.last) (sym split)
-        (subst (λ n. AreNewFrom ((matter.inputs ++ derived q.0) ++ derived q.1) n (clause_of question.assumptions) question.last) (sym at.inputs_are)
-        (subst (λ n. AreNewFrom ((matter.inputs ++ derived q.0) ++ derived q.1) (length matter.inputs) (clause_of question.assumptions) n) (sym q.3)
-        (new-from-each (length matter.inputs) (clause_of question.assumptions) (matter.inputs ++ derived q.0) (derived q.1) each)))
-
-    no-old : AreNewFrom s.log.clauses s.log.inputs (clause_of question.assumptions) question.last
-        → ¬ HasRecordFault matter h before lines.Undecided causes.NotNew
-    no-old were fault =
-        let one = one-open before fault.0 q.0 fault.1 question.assumptions fault.2 q.1 fault.3 q.2 in
-        let New : List CertRecord → List Word → List CertRecord
-        → Type 0 = λ e asked si. EachIsNew (matter.inputs ++ derived e) (length matter.inputs) (clause_of asked) (derived si) in
-        fault.4 (subst (λ e. New e fault.1 fault.2) (sym one.0)
-        (subst (λ asked. New q.0 asked fault.2) (sym one.1) (subst (λ si. New q.0 question.assumptions si) (sym one.2) (new were))))
-
-    by : (f : Option CertCause) → TellsUndecided s.log s.limit (Some question) f → IsVerdict matter h before lines.Undecided f
-    by None t = faultless-from matter h before lines.Undecided none
-      where
-        none : (cause : CertCause) → may_have lines.Undecided cause ≡ true → ¬ HasRecordFault matter h before lines.Undecided cause
-        none causes.OutOfOrder may fault = in-order fault
-        none causes.LimitNotReached may fault = late t.0 fault
-        none causes.NotNew may fault = no-old t.1 fault
-        none cause may fault = false≢true may
-    by (Some causes.LimitNotReached) t = first-from matter h before lines.Undecided causes.LimitNotReached (early t) none
-      where
-        none : (cause : CertCause) → may_have lines.Undecided cause ≡ true → rank cause < 10
-            → ¬ HasRecordFault matter h before lines.Undecided cause
-        none causes.OutOfOrder may below fault = in-order fault
-        none causes.LimitNotReached may below fault = omega (arith, below)
-        none causes.NotNew may below fault = omega (arith, below)
-        none cause may below fault = false≢true may
-    by (Some causes.NotNew) t = first-from matter h before lines.Undecided causes.NotNew
-        (q.0, question.assumptions, q.1, q.2, λ each. t.1 (were-new each)) none
-      where
-        none : (cause : CertCause) → may_have lines.Undecided cause ≡ true → rank cause < 11
-            → ¬ HasRecordFault matter h before lines.Undecided cause
-        none causes.OutOfOrder may below fault = in-order fault
-        none causes.LimitNotReached may below fault = late t.0 fault
-        none causes.NotNew may below fault = omega (arith, below)
-        none cause may below fault = false≢true may
-    by (Some cause) t = absurd t
+use Rattle.dist_check_state.specs.FirstFaultLaws.{rank, may_have, faultless_from, first_from}
+use Rattle.dist_check_state.specs.VerdictLaws.{IsVerdict}
 
 -- ---- the end
 
 pub end-verdict : (matter : Matter) (h : Header) (before : List CertRecord) (s : StateView)
     → IsAt matter h before s → (found : Option CertCause)
     → TellsEnd s.next s.packages found → IsVerdict matter h before lines.End found
-end-verdict matter h before s at None told = faultless-from matter h before lines.End none
+end-verdict matter h before s at None told = faultless_from matter h before lines.End none
   where
     none : (cause : CertCause) → may_have lines.End cause ≡ true → ¬ HasRecordFault matter h before lines.End cause
     none causes.Incomplete may fault = omega (arith, told, fault, at.next, at.packages)
     none cause may fault = false≢true may
 end-verdict matter h before s at (Some causes.Incomplete) told =
-    first-from matter h before lines.End causes.Incomplete (omega (arith, told, at.next, at.packages)) none
+    first_from matter h before lines.End causes.Incomplete (omega (arith, told, at.next, at.packages)) none
   where
     none : (cause : CertCause) → may_have lines.End cause ≡ true → rank cause < 13 → ¬ HasRecordFault matter h before lines.End cause
     none causes.Incomplete may below fault = omega (arith, below)
@@ -185,7 +84,7 @@ pub number-verdict : (matter : Matter) (h : Header) (before : List CertRecord) (
     → is_next s.next s.packages p ≡ false → IsVerdict matter h before step (Some causes.OutOfOrder)
 number-verdict matter h before s at step p on next =
     let Fault : CertCause → Type 0 = HasRecordFault matter h before step in
-    first-from matter h before step causes.OutOfOrder (on.from_number (wrong-number matter h before s at p next))
+    first_from matter h before step causes.OutOfOrder (on.from_number (wrong-number matter h before s at p next))
     (λ cause may below. elim (on.may cause may) [
       | inl order ↦ let e : rank cause ≡ 5 = ap rank order in omega (arith, below, e)
       | inr (inl wrong) ↦ let e : rank cause ≡ 12 = ap rank wrong in omega (arith, below, e)
@@ -198,7 +97,7 @@ pub wrong-verdict : (matter : Matter) (h : Header) (before : List CertRecord) (s
     → IsVerdict matter h before step (Some causes.WrongClaim)
 wrong-verdict matter h before s at step p on next never =
     let Fault : CertCause → Type 0 = HasRecordFault matter h before step in
-    first-from matter h before step causes.WrongClaim
+    first_from matter h before step causes.WrongClaim
     (on.claim, never) (λ cause may below. elim (on.may cause may) [
       | inl order ↦ λ fault. right-number matter h before s at p next (on.number (subst Fault order fault))
       | inr (inl wrong) ↦ let e : rank cause ≡ 12 = ap rank wrong in λ fault. omega (arith, below, e)
@@ -211,7 +110,7 @@ pub right-verdict : (matter : Matter) (h : Header) (before : List CertRecord) (s
     → ¬ HasRecordFault matter h before step causes.Incomplete → IsVerdict matter h before step None
 right-verdict matter h before s at step p on next holds whole =
     let Fault : CertCause → Type 0 = HasRecordFault matter h before step in
-    faultless-from matter h before step (λ cause may fault. elim (on.may cause may) [
+    faultless_from matter h before step (λ cause may fault. elim (on.may cause may) [
       | inl order ↦ right-number matter h before s at p next (on.number (subst Fault order fault))
       | inr (inl wrong) ↦ (subst Fault wrong fault).1 holds
       | inr (inr incomplete) ↦ whole (subst Fault incomplete fault)
@@ -224,7 +123,7 @@ pub incomplete-verdict : (matter : Matter) (h : Header) (before : List CertRecor
     → IsVerdict matter h before step (Some causes.Incomplete)
 incomplete-verdict matter h before s at step p on next holds omits =
     let Fault : CertCause → Type 0 = HasRecordFault matter h before step in
-    first-from matter h before step causes.Incomplete omits (λ cause may below. elim (on.may cause may) [
+    first_from matter h before step causes.Incomplete omits (λ cause may below. elim (on.may cause may) [
       | inl order ↦ λ fault. right-number matter h before s at p next (on.number (subst Fault order fault))
       | inr (inl wrong) ↦ λ fault. (subst Fault wrong fault).1 holds
       | inr (inr incomplete) ↦ let e : rank cause ≡ 13 = ap rank incomplete in λ fault. omega (arith, below, e)

@@ -1,7 +1,7 @@
 -- What a claim of kind outdated or challenged without a fault says is true.
-use Rattle.std.proofs.Common.{◌≡◌, ◌≢◌, ◌↔◌, ◌⊎◌, inl, inr, ⊎_elim, ℕ, ◌+◌, ◌-◌, ◌<◌, ◌≤◌, Bool, true, false, List, [], ◌∷◌, ◌++◌, length, map, not, Some, refl}
+use Rattle.std.proofs.Common.{◌≡◌, ◌≢◌, ◌↔◌, ◌⊎◌, inl, inr, ⊎_elim, ℕ, ◌+◌, ◌-◌, Bool, true, false, List, [], ◌∷◌, ◌++◌, length, map, not, Some, refl}
 use Rattle.std.proofs.Common.{sym, ap, subst, ◌∙◌, append_assoc, arith, slice_get}
-use Rattle.std.specs.List.{All, Any, Contains}
+use Rattle.std.specs.List.{All, Contains}
 use Rattle.std.proofs.lemmas.Bool.{false≢true}
 use Rattle.std.proofs.lemmas.List.Elements.{All-append, All-nil, All-cons, All-head, All-tail, All-contains}
 use Rattle.std.proofs.lemmas.List.Elements.{Contains-append_left, Contains-append_right, Contains-append_cases}
@@ -31,13 +31,13 @@ use Rattle.dist_cert.specs.declared.records.Claim.{Claim}
 use Rattle.dist_cert.specs.declared.records.Claim.TheVariants as claims
 use Rattle.dist_cert.specs.declared.records.Header.{Header}
 use Rattle.dist_cert.specs.Form.{Word, ArePairs, KeepsRules, record_text, HasForm}
-use Rattle.dist_cert.specs.Groups.{clause_of, installations, installation_at, is_claim, claimed, claim_count, group, IsRefutedIn}
+use Rattle.dist_cert.specs.Groups.{clause_of, installations, installation_at, is_claim, claim_count, group, IsRefutedIn}
 use Rattle.dist_cert.specs.GroupLaws.{all-at}
 use Rattle.dist_cert.specs.ClaimRules as rules
 use Rattle.dist_cert.specs.ClaimRules.{yes, claim_question, challenge_question, IsNamed, IsPairFor, IsCovered, SomeInstallation, HoldsChallenged, HoldsClaim}
 use Rattle.dist_cert.specs.ListLaws.{any-from}
 use Rattle.dist_cert.specs.LineRules.{IsNoFuture}
-use Rattle.dist_cert.specs.Accepted.{from_zero, pairs_from_zero, claim_in}
+use Rattle.dist_cert.specs.Accepted.{pairs_from_zero, claim_in}
 use Rattle.dist_cert.specs.Subject.{Matter}
 use Rattle.dist_subject.specs.Installed.{AreModelsHealthy}
 use Rattle.dist_subject.specs.Later.{later_matter}
@@ -45,7 +45,8 @@ use Rattle.dist_subject.specs.MemberLaws.{value-among}
 use Rattle.dist_subject.specs.Present.{truth_of}
 use Rattle.dist_subject.specs.TruthLaws.{truth-length}
 use Rattle.dist_check.specs.Means.{IsPairBeside, SaysChallenged, SaysOutdated, TellsPairs}
-use Rattle.dist_check.specs.CheckedPrivate.{AreRight, HaveForms}
+use Rattle.dist_judge.specs.LineLaws.{HaveForms}
+use Rattle.dist_check.specs.CheckedPrivate.{AreRight}
 use Rattle.dist_check.proofs.Told.{IsTold, stable, less-told, any-told, number-told, model-told}
 use Rattle.dist_check.proofs.Places.{contains-map}
 use Rattle.dist_check.proofs.LineLemmas.{IsSoundRule, refuted-true}

@@ -1,6 +1,6 @@
 mod Told
 mod Places
-mod Records
+mod ClearKind
 mod LineLemmas
 mod GroupLemmas
 mod MemberLemmas
@@ -13,10 +13,7 @@ mod TriedMarks
 mod Hard
 mod Laid
 mod Begun
-mod Above
-mod Profile
 mod TestLemmas
-mod Verdicts
 mod WindowLemmas
 mod ClosingVerdicts
 mod ChallengeVerdicts
@@ -25,14 +22,10 @@ mod StrongVerdicts
 mod CoverSteps
 mod Steps
 mod Next
-mod CheckLemmas
 mod CheckState
 mod CheckSteps
 mod CheckText
-mod Stops
-mod Judged
 mod OneVerdict
 mod SomeVerdict
-mod FirstStops
 mod OneAnswer
 mod LargeCauses

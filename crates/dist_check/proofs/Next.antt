@@ -3,7 +3,10 @@ use Rattle.std.proofs.Common.{◌≡◌, ℕ, ◌+◌, Bool, true, false, List, 
 use Rattle.std.proofs.Common.{length-append, MatchOption}
 use Rattle.std.proofs.lemmas.List.{append-nil}
 use Rattle.std.proofs.lemmas.Grind.{flat_map-append}
-use Rattle.dist_clause.specs.Formula.{Literal}
+use Rattle.dist_clause.specs.Formula.{Literal, value_of}
+use Rattle.dist_cert.specs.Rising.{is_among}
+use Rattle.dist_subject.specs.MemberLaws.{model-alike, value-among}
+use Rattle.dist_subject.specs.Present.{truth_of}
 use Rattle.dist_cert.specs.declared.faults.CertCause.{CertCause}
 use Rattle.dist_outside.specs.declared.limits.Limits.{Limits}
 use Rattle.dist_repo.specs.PackageList.{PackageList}
@@ -22,34 +25,49 @@ use Rattle.dist_check_group.specs.Group.{GroupView}
 use Rattle.dist_check_group.specs.Layout.{present}
 use Rattle.dist_check_state.specs.State.{Notes, QuestionView, StateView, Tells, Becomes, after_claim, TellsRefuted, TellsUndecided}
 use Rattle.dist_subject.specs.Basis.{Basis, Today, Later, IsBasisOf, matter_of}
-use Rattle.dist_check.specs.AtPrivate.{IsQuestionOf, IsGroupOf, IsAt}
+use Rattle.dist_check_state.specs.LinesAt.{IsLogOf, IsQuestionOf, JudgesMembers}
+use Rattle.dist_check.specs.AtPrivate.{IsGroupOf, IsAt}
 use Rattle.dist_check.specs.Start.{IsStart}
-use Rattle.dist_check.proofs.ClosingVerdicts.{undecided-verdict, end-verdict, installable-verdict, unknown-verdict, outdated-verdict, alive-verdict}
+use Rattle.dist_check.proofs.ClosingVerdicts.{end-verdict, installable-verdict, unknown-verdict, outdated-verdict, alive-verdict}
 use Rattle.dist_check.proofs.ChallengedVerdict.{challenged-verdict}
 use Rattle.dist_cert.specs.GroupLaws.{IsOpening, opened, none-open, none-first}
-use Rattle.dist_check.specs.CheckedPrivate.{AreInputsOf, AreRight, HaveForms}
+use Rattle.dist_judge.specs.LineLaws.{HaveForms}
+use Rattle.dist_check.specs.CheckedPrivate.{AreInputsOf, AreRight}
 use Rattle.dist_check.proofs.Steps.{derived-push, derived-same, installed-push, installed-same, latest-push, question-stays, group-first, group-same}
 use Rattle.dist_check.proofs.Steps.{group-installed, group-refuted, group-undecided, group-after_claim}
 use Rattle.dist_check.proofs.StrongVerdicts.{strong-verdict}
-use Rattle.dist_check.proofs.Verdicts.{IsVerdict, question-verdict, derived-verdict, refuted-verdict, installation-verdict}
+use Rattle.dist_check_state.specs.VerdictLaws.{IsVerdict, question-verdict, derived-verdict, refuted-verdict, installation-verdict, undecided-verdict}
 use Rattle.dist_check.proofs.Counts.{claim-count-push}
 
 -- ---- the verdict
+
+log-of : (matter : Matter) (h : Header) (before : List CertRecord) (s : StateView) → IsAt matter h before s → IsLogOf matter before s.log
+log-of matter h before s at = record { clauses = at.clauses; inputs_are = at.inputs_are; variables = at.variables }
+
+-- truth values and members of a list make the same clauses true
+judges : (matter : Matter) → AreInputsOf matter → JudgesMembers matter
+judges matter mean members = (
+  λ both. model-alike (value_of (truth_of matter.variables members)) (is_among members) matter.variables (value-among matter.variables members)
+      matter.inputs mean.over ((mean.models.exactly members).0 both),
+  λ model. (mean.models.exactly members).1 (model-alike (is_among members) (value_of (truth_of matter.variables members)) matter.variables
+      (λ v from upto. sym (value-among matter.variables members v from upto)) matter.inputs mean.over model),
+)
 
 pub told-verdict : (matter : Matter) (h : Header) (before : List CertRecord) (s : StateView)
     → IsAt matter h before s → AreRight matter h before → HaveForms before
     → AreInputsOf matter → (step : CertRecord) → KeepsRules step → (found : Option CertCause) → Tells s step found
     → IsVerdict matter h before step found
 told-verdict matter h before s at right forms mean (lines.Question literals) rules found told =
-    question-verdict matter h before s at literals found told
+    question-verdict matter h before s.log (log-of matter h before s at) literals found told
 told-verdict matter h before s at right forms mean (lines.Derived literals hints) rules found told =
-    derived-verdict matter h before s at literals hints found told
+    derived-verdict matter h before s.log (log-of matter h before s at) literals hints found told
 told-verdict matter h before s at right forms mean (lines.Refuted hints) rules found told =
-    refuted-verdict matter h before s at s.question at.question hints found told
+    refuted-verdict matter h before s.log (log-of matter h before s at) s.question at.question hints found told
 told-verdict matter h before s at right forms mean (lines.Installation variables) rules found told =
-    installation-verdict matter h before s at mean variables found told
+    installation-verdict matter h before s.log (log-of matter h before s at) (judges matter mean) s.future at.future at.today variables found told
 told-verdict matter h before s at right forms mean lines.Undecided rules found told =
-    undecided-verdict matter h before s at s.question at.question found told
+    undecided-verdict matter h before s.log (log-of matter h before s at) s.question at.question found
+    (subst (λ n. TellsUndecided s.log n s.question found) at.limit told)
 told-verdict matter h before s at right forms mean (lines.NotInstallable p) rules found told = installable-verdict matter h before s at p found told
 told-verdict matter h before s at right forms mean (lines.Unknown p) rules found told = unknown-verdict matter h before s at p found told
 told-verdict matter h before s at right forms mean (lines.Strong p named on undecided) rules found told =

@@ -1,133 +1,52 @@
 -- A text has one answer.
-use Rattle.std.proofs.Common.{◌≡◌, ◌⊎◌, ⊎_elim, inl, inr, ℕ, List, [], Ok, Err, refl, sym, subst}
+use Rattle.std.proofs.Common.{◌≡◌, ℕ, List, Ok, Err, refl, ap, sym, ◌∙◌}
 use Rattle.dist_outside.specs.declared.limits.Limits.{Limits}
-use Rattle.dist_outside.specs.declared.trouble.What.TheVariants.{Variables, Clauses, Literals, Lines, LineLiterals, Certificate}
-use Rattle.dist_outside.specs.declared.trouble.WorkError.TheVariants.{ReadFault, NoMemory, TooLarge}
+use Rattle.dist_outside.specs.declared.trouble.WorkError.TheVariants.{ReadFault, NoMemory}
 use Rattle.dist_repo.specs.PackageList.{PackageList}
-use Rattle.dist_cert.specs.declared.records.CertRecord.{CertRecord}
-use Rattle.dist_cert.specs.declared.records.Header.{Header}
+use Rattle.dist_cert.specs.declared.faults.ReadCertError.TheVariants.{Bad, Work}
+use Rattle.dist_cert.specs.Accepted.{claims_in}
+use Rattle.dist_judge.specs.AnswerLaws as answers
 use Rattle.dist_check.specs.Answers.{Answers, IsOfText}
-use Rattle.dist_check.specs.Checking.{IsReached}
 use Rattle.dist_check.specs.declared.verdict.Verdict.TheVariants.{Accepted, Refused}
-use Rattle.dist_subject.specs.Basis.{Basis, matter_of}
-use Rattle.dist_check.proofs.FirstStops.{AreKnown, FirstReason, one-first-stop, first-alone}
-use Rattle.dist_check.proofs.Judged.{is-judged, reads-header, same-judged}
-use Rattle.dist_check.proofs.Stops.{Answer, Reason, one-later}
+use Rattle.std.specs.declared.result.Result.{Result}
+use Rattle.dist_outside.specs.declared.trouble.WorkError.{WorkError}
+use Rattle.dist_check.specs.declared.verdict.Verdict.{Verdict}
+use Rattle.dist_subject.specs.Certificates.{certificates_of}
 
--- Where a text is read up to behind some records, and there stops with an answer.
-record StopsBehind (r : PackageList) (limits : Limits) (text : List ℕ) (one : Answer) : Type 0 where
-  basis : Basis
-  h : Header
-  before : List CertRecord
-  rest : List ℕ
-  reached : IsReached r basis limits text h before rest
-  reason : Reason (matter_of r basis) limits h before rest one
+-- an answer as that of a file: its heading and records, or why not
+abbrev Answer : PackageList → Type 0
+Answer r = answers.Answer (certificates_of r)
 
--- where an answer stops
-abbrev Stop : PackageList → Limits → List ℕ → Answer → Type 0
-Stop r limits text one = FirstReason r limits text one ⊎ StopsBehind r limits text one
+-- the verdict, or an error of work, that is told by such an answer
+told : (r : PackageList) → Answer r → Result Verdict WorkError
+told r (Ok (h, steps)) = Ok (Accepted h (claims_in steps))
+told r (Err (Bad fault)) = Ok (Refused fault)
+told r (Err (Work error)) = Err error
 
-stop-of : (r : PackageList) (limits : Limits) (text : List ℕ) (one : Answer) → Answers r limits text one → IsOfText one → Stop r limits text one
-stop-of r limits text (Ok (Accepted h made)) x of = inr (record {
-  basis = x.basis;
-  h = h;
-  before = x.steps;
-  rest = [];
-  reached = record { is_basis = x.is_basis; faultless = x.accepted.faultless; numbers = x.numbers };
-  reason = record { header = refl; claims = x.claims; nothing = refl; ends = x.accepted.ends };
-})
-stop-of r limits text (Ok (Refused fault)) x of = ⊎_elim
-    (λ first. inl (record {
-      basis = first.1.basis;
-      judged = first.1.judged;
-      line = first.0;
-      bytes = first.1.bytes;
-      first = first.1.first;
-      within = first.1.within;
-    }))
-    (λ later. inr (record {
-      basis = later.basis;
-      h = later.h;
-      before = later.before;
-      rest = later.rest;
-      reached = later.reached;
-      reason = record { bytes = later.bytes; line = later.line; first = later.first };
-    }))
-    x
-stop-of r limits text (Err (TooLarge Variables)) x of = inl x
-stop-of r limits text (Err (TooLarge Clauses)) x of = inl x
-stop-of r limits text (Err (TooLarge Literals)) x of = inl x
-stop-of r limits text (Err (TooLarge Lines)) x of = inr (record {
-  basis = x.basis;
-  h = x.h;
-  before = x.before;
-  rest = x.rest;
-  reached = x.reached;
-  reason = record {
-    keeps = x.keeps;
-    literals = x.literals;
-    hints = x.hints;
-    line = x.line;
-    more = x.more;
-    begins = x.begins;
-    form = x.form;
-    none = x.none;
-    passes = x.passes;
-  };
-})
-stop-of r limits text (Err (TooLarge LineLiterals)) x of = inr (record {
-  basis = x.basis;
-  h = x.h;
-  before = x.before;
-  rest = x.rest;
-  reached = x.reached;
-  reason = record {
-    keeps = x.keeps;
-    literals = x.literals;
-    hints = x.hints;
-    line = x.line;
-    more = x.more;
-    begins = x.begins;
-    form = x.form;
-    none = x.none;
-    passes = x.passes;
-  };
-})
-stop-of r limits text (Err (TooLarge Certificate)) x of = ⊎_elim inl
-    (λ later. inr (record {
-      basis = later.basis;
-      h = later.h;
-      before = later.before;
-      rest = later.rest;
-      reached = later.reached;
-      reason = later.passes;
-    }))
-    x
-stop-of r limits text (Err ReadFault) x of = absurd of
-stop-of r limits text (Err NoMemory) x of = absurd of
-stop-of r limits text (Err (TooLarge what)) x of = absurd x
-stop-of r limits text (Err error) x of = absurd x
+-- each answer of the check is told by one of its file
+record IsTold (r : PackageList) (limits : Limits) (text : List ℕ) (one : Result Verdict WorkError) : Type 0 where
+  answer : Answer r
+  is : one ≡ told r answer
+  of : answers.IsAnswer (certificates_of r) limits text answer
+  of_text : answers.IsOfText answer
 
-both-behind : (r : PackageList) (limits : Limits) (text : List ℕ) (one other : Answer) → AreKnown r limits → StopsBehind r limits text one
-    → StopsBehind r limits text other → one ≡ other
-both-behind r limits text one other known a b =
-    let judged = is-judged known.clear r a.basis limits text a.h a.before a.rest a.reached.faultless a.reached.is_basis in
-    let also = is-judged known.clear r b.basis limits text b.h b.before b.rest b.reached.faultless b.reached.is_basis in
-    let header = reads-header known.clear r a.basis limits text a.h a.before a.rest a.reached.faultless in
-    let same : b.basis ≡ a.basis = same-judged known.same r limits text a.basis b.basis header judged also in
-    one-later known.clear r a.basis limits text a.h b.h a.before b.before a.rest b.rest one other a.reached
-    (subst (λ x. IsReached r x limits text b.h b.before b.rest) same b.reached) a.reason
-    (subst (λ x. Reason (matter_of r x) limits b.h b.before b.rest other) same b.reason)
+is-told : (r : PackageList) (limits : Limits) (text : List ℕ) (one : Result Verdict WorkError) → Answers r limits text one → IsOfText one
+    → IsTold r limits text one
+unfolding told
+is-told r limits text (Ok (Accepted h made)) x of = record {
+  answer = Ok (h, x.steps);
+  is = ap (λ k. Ok (Accepted h k)) x.claims;
+  of = record { basis = x.basis; is_basis = x.is_basis; steps = x.steps; accepted = x.accepted; claims = refl; numbers = x.numbers };
+  of_text = tt;
+}
+is-told r limits text (Ok (Refused fault)) x of = record { answer = Err (Bad fault); is = refl; of = x; of_text = tt }
+is-told r limits text (Err ReadFault) x of = absurd of
+is-told r limits text (Err NoMemory) x of = absurd of
+is-told r limits text (Err error) x of = record { answer = Err (Work error); is = refl; of = x; of_text = tt }
 
-pub one-answer : (r : PackageList) (limits : Limits) (text : List ℕ) (one other : Answer) → AreKnown r limits
-    → Answers r limits text one → Answers r limits text other → IsOfText one → IsOfText other → other ≡ one
-one-answer r limits text one other known x y of of_other = sym (⊎_elim
-    (λ a. ⊎_elim
-    (λ b. one-first-stop r limits text known one other a b)
-    (λ b. absurd (first-alone r b.basis limits text b.h b.before b.rest known one a b.reached))
-    (stop-of r limits text other y of_other))
-    (λ a. ⊎_elim
-    (λ b. absurd (first-alone r a.basis limits text a.h a.before a.rest known other b a.reached))
-    (λ b. both-behind r limits text one other known a b)
-    (stop-of r limits text other y of_other))
-    (stop-of r limits text one x of))
+pub one-answer : (r : PackageList) (limits : Limits) (text : List ℕ) (one other : Result Verdict WorkError)
+    → answers.AreKnown (certificates_of r) limits → Answers r limits text one → Answers r limits text other → IsOfText one → IsOfText other → other ≡ one
+one-answer r limits text one other known x y of of_other =
+    let a = is-told r limits text one x of in
+    let b = is-told r limits text other y of_other in
+    b.is ∙ ap (told r) (answers.one_answer (certificates_of r) limits text a.answer b.answer known a.of b.of a.of_text b.of_text) ∙ sym a.is

@@ -1,23 +1,20 @@
 -- A text has some verdict.
-use Rattle.std.proofs.Common.{◌≡◌, ◌≢◌, ⊎_elim, ℕ, Bool, false, List, [], ◌++◌}
+use Rattle.std.proofs.Common.{◌≢◌, ℕ, Bool, false, List, [], refl}
 use Rattle.dist_outside.specs.declared.limits.Limits.{Limits}
 use Rattle.dist_repo.specs.Order.{IsInOrder}
 use Rattle.dist_repo.specs.PackageList.{PackageList}
-use Rattle.dist_cert.specs.declared.faults.CertCause.TheVariants as causes
 use Rattle.dist_cert.specs.declared.faults.CertFault.{CertFault}
 use Rattle.dist_cert.specs.declared.records.CertKind.{CertKind}
 use Rattle.dist_cert.specs.declared.records.CertKind.TheVariants.{Strong, Outdated, Challenged}
 use Rattle.dist_cert.specs.declared.records.Claim.{Claim}
 use Rattle.dist_cert.specs.declared.records.Header.{Header}
+use Rattle.dist_cert.specs.Accepted.{claims_in}
 use Rattle.dist_cert.specs.ClearFormsLaws.{FormsAreClear}
-use Rattle.dist_cert.specs.Form.{header_text}
-use Rattle.dist_cert.specs.Refusal.{lines_text}
-use Rattle.dist_cert.specs.SomeVerdictLaws.{some_verdict}
-use Rattle.dist_subject.specs.Basis.{Basis, HaveVersions, IsAccepted, IsBasisOf, IsJudgedBy, IsRefused, Today, matter_of}
+use Rattle.dist_judge.specs.VerdictLaws.{some_judgement}
 use Rattle.dist_check.specs.Answers.{AsksOfFutures}
-use Rattle.dist_check.proofs.CheckLemmas.{judged-by}
-use Rattle.dist_check.proofs.Judged.{HasHeader, header-begins}
-use Rattle.dist_check.proofs.Told.{either-way}
+use Rattle.dist_subject.specs.Basis.{Basis, HaveVersions, IsAccepted, IsBasisOf, IsRefused, Today}
+use Rattle.dist_subject.specs.Certificates.{certificates_of}
+use Rattle.dist_check.proofs.ClearKind.{clear-kind}
 
 -- the laws of dist_subject
 abbrev pub TodayIsThere : Type 0
@@ -38,27 +35,6 @@ pub some-verdict : FormsAreClear → TodayIsThere → BasisIsThere → (r : Pack
     → (AsksOfFutures text → HaveVersions r)
     → ((h : Header) (made : List Claim) → ¬ IsAccepted r limits text h made) → ¬ ((fault : CertFault) → ¬ IsRefused r limits text fault)
 some-verdict clear today there r limits text ordered versions not_accepted not_refused =
-    either-way (HasHeader limits text) (λ told. ⊎_elim with-header without told)
-  where
-    -- by what the text is judged
-    by : (basis : Basis) → IsJudgedBy r limits text basis → ⊥
-    by basis judged = some_verdict (matter_of r basis) limits text (⊎_elim
-        (λ accepted.
-        let faultless = accepted.2.1.faultless in
-        not_accepted accepted.0 accepted.1 (
-          basis,
-          judged accepted.0 (header_text accepted.0) (lines_text accepted.2.0 ++ []) (header-begins clear text accepted.0 accepted.2.0 [] faultless.reads)
-              faultless.reads.header (λ long. faultless.first causes.LineTooLong long),
-          accepted.2,
-        ))
-        (λ refused. not_refused refused.0 (basis, judged, refused.1)))
-
-    with-header : HasHeader limits text → ⊥
-    with-header x =
-        let some = some-basis today there r x.h.kind x.h.essential ordered
-        (λ later. versions (x.h, x.line, x.more, x.begins, x.form, later)) in
-        by some.0 (judged-by clear r limits text x.line x.more x.h some.0 x.begins x.form some.1)
-
-    without : (¬ HasHeader limits text) → ⊥
-    without none = by (Today false []) (λ h line more begins form short.
-        absurd (none (record { h = h; line = line; more = more; begins = begins; form = form; short = short })))
+    some_judgement (certificates_of r) (clear-kind clear r) (Today false []) limits text
+    (λ x. some-basis today there r x.h.kind x.h.essential ordered (λ later. versions (x.h, x.line, x.more, x.begins, x.form, later)))
+    (λ h steps accepted. not_accepted h (claims_in steps) (accepted.0, accepted.1, (steps, accepted.2, refl))) not_refused

@@ -23,7 +23,8 @@ use Rattle.dist_check_group.specs.Common.{narrowed, common_with}
 use Rattle.dist_check_group.specs.Group.{GroupView, Grows, empty_group}
 use Rattle.dist_check_group.specs.Layout.{LayoutView}
 use Rattle.dist_check_state.specs.State.{Notes, QuestionView}
-use Rattle.dist_check.specs.AtPrivate.{IsQuestionOf, AreClosed, IsCommonOf, IsGathered, IsGroupOf, own_question}
+use Rattle.dist_check_state.specs.LinesAt.{IsQuestionOf}
+use Rattle.dist_check.specs.AtPrivate.{AreClosed, IsCommonOf, IsGathered, IsGroupOf, own_question}
 use Rattle.dist_check.specs.CoverPrivate.{IsCoverOf}
 use Rattle.dist_check.proofs.CoverSteps.{any-append, cover-first, cover-push, filter-has}
 use Rattle.dist_cert.specs.ListLaws.{any-from, from-any}

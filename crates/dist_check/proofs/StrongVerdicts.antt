@@ -1,15 +1,11 @@
 -- The same of claims on strong dependencies.
-use Rattle.std.proofs.Common.{◌≡◌, ◌≢◌, inl, inr, ⊎_elim, ℕ, ◌+◌, ◌-◌, ◌<◌, ◌≤◌, ◌↔◌, ◌==◌, ◌&&◌, Bool, true, false, not, List, [], ◌∷◌, ◌++◌, Option, Some}
-use Rattle.std.proofs.Common.{None, length, get_or, refl, sym, ap, subst, ◌∙◌, arith, nat_le, slice_get, unwrap_or, if◌then◌else◌}
+use Rattle.std.proofs.Common.{◌≡◌, ◌≢◌, inl, inr, ⊎_elim, ℕ, ◌<◌, ◌≤◌, ◌↔◌, ◌==◌, ◌&&◌, Bool, true, false, not, List, [], ◌∷◌, ◌++◌, Option, Some}
+use Rattle.std.proofs.Common.{None, length, get_or, refl, sym, ap, subst, ◌∙◌, arith, nat_le, unwrap_or}
 use Rattle.std.specs.List.{All, Contains, list_all}
-use Rattle.std.proofs.lemmas.Bool.{true≢false, false≢true, and_parts, and_from, cases_lt, eqb-true, eqb-false, ne_eqb, not-true, not_from_false, le-leb, lt-leb}
+use Rattle.std.proofs.lemmas.Bool.{true≢false, false≢true, and_parts, and_from, cases_lt, eqb-false, ne_eqb, not-true, not_from_false}
 use Rattle.std.proofs.lemmas.Bool.{false_from_ne_true}
-use Rattle.std.proofs.lemmas.List.{get_or-drop, length-drop}
 use Rattle.std.proofs.lemmas.List.Elements.{All-append, All-contains, All-head, Contains-append_left, Contains-append_right, Contains-append_cases}
-use Rattle.std.proofs.lemmas.Option.{slice_get-get_or, slice_get_past}
 use Rattle.dist_base.specs.ListLaws.{all-contained}
-use Rattle.dist_clause.specs.Formula.{Literal}
-use Rattle.dist_cert.specs.declared.TheConstants.{REACH}
 use Rattle.dist_cert.specs.declared.faults.CertCause.{CertCause}
 use Rattle.dist_cert.specs.declared.faults.CertCause.TheVariants as causes
 use Rattle.dist_cert.specs.declared.records.CertKind.{CertKind}
@@ -18,7 +14,7 @@ use Rattle.dist_cert.specs.declared.records.CertRecord.{CertRecord}
 use Rattle.dist_cert.specs.declared.records.CertRecord.TheVariants as lines
 use Rattle.dist_cert.specs.declared.records.Header.{Header}
 use Rattle.dist_cert.specs.Form.{AreFromOne, record_text, HasForm, KeepsRules}
-use Rattle.dist_cert.specs.Groups.{installations, installation_at, IsRecent, group, IsRefutedIn, IsUndecidedIn}
+use Rattle.dist_cert.specs.Groups.{installations, installation_at, group, IsRefutedIn, IsUndecidedIn}
 use Rattle.dist_cert.specs.GroupLaws.{all-at}
 use Rattle.dist_cert.specs.Subject.{Matter}
 use Rattle.dist_cert.specs.ClaimRules.{yes, no, IsNamed, IsInEach, HoldsClaim, HoldsStrong, OmitsPackage}
@@ -31,11 +27,12 @@ use Rattle.dist_check.specs.AtPrivate.{IsCommonOf, IsGathered, IsAt}
 use Rattle.dist_check.proofs.ClosingVerdicts.{on-strong, listed-verdict, next-is, wrong-verdict, right-verdict, incomplete-verdict}
 use Rattle.dist_check.proofs.WindowLemmas.{kept-recent, member-tests}
 use Rattle.dist_check.proofs.GroupLemmas.{line-of, recent-there}
-use Rattle.dist_check.specs.CheckedPrivate.{AreRight, HaveForms}
+use Rattle.dist_judge.specs.LineLaws.{HaveForms}
+use Rattle.dist_check.specs.CheckedPrivate.{AreRight}
 use Rattle.dist_cert.specs.ListLaws.{any-from, from-any}
 use Rattle.dist_check.proofs.TestLemmas.{Tests, all-tested, any-tested, none-tested, among-tests, other-tests}
-use Rattle.dist_check.proofs.Told.{IsTold, stable, most-told, less-told}
-use Rattle.dist_check.proofs.Verdicts.{IsVerdict}
+use Rattle.dist_check.proofs.Told.{stable, most-told, less-told}
+use Rattle.dist_check_state.specs.VerdictLaws.{IsVerdict}
 
 -- the package is in each named installation
 abbrev pub InNamed : List CertRecord → List ℕ → ℕ → Type 0

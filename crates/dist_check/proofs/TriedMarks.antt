@@ -1,7 +1,7 @@
 -- The marks of records without faults: each question was tried.
-use Rattle.std.proofs.Common.{◌≡◌, inl, inr, ℕ, zero, suc, ◌+◌, ◌-◌, ◌<◌, ◌≤◌, true, List, [], ◌∷◌, ◌++◌, length, get_or, map, Some, refl, sym, ap, subst, ◌∙◌}
-use Rattle.std.proofs.Common.{append_assoc, arith, slice_get}
-use Rattle.std.specs.List.{All, Contains}
+use Rattle.std.proofs.Common.{◌≡◌, inl, inr, ℕ, zero, suc, ◌+◌, ◌-◌, ◌<◌, ◌≤◌, true, List, [], ◌∷◌, ◌++◌, length, get_or, map, refl, sym, ap, subst, ◌∙◌}
+use Rattle.std.proofs.Common.{append_assoc, arith}
+use Rattle.std.specs.List.{Contains}
 use Rattle.std.proofs.lemmas.List.Elements.{All-contains}
 use Rattle.dist_clause.specs.Formula.{negation}
 use Rattle.dist_cert.specs.declared.faults.CertCause.TheVariants as causes
@@ -12,14 +12,15 @@ use Rattle.dist_cert.specs.declared.records.CertRecord.TheVariants as lines
 use Rattle.dist_cert.specs.declared.records.Claim.{Claim}
 use Rattle.dist_cert.specs.declared.records.Claim.TheVariants as claims
 use Rattle.dist_cert.specs.declared.records.Header.{Header}
-use Rattle.dist_cert.specs.Accepted.{from_zero, pairs_from_zero, claim_in, claims_in}
+use Rattle.dist_cert.specs.Accepted.{from_zero, pairs_from_zero, claim_in}
 use Rattle.dist_cert.specs.ClaimRules.{yes, no, claim_question, challenge_question, IsInEach, IsCovered, HoldsClaim}
 use Rattle.dist_cert.specs.Form.{Word, AreFromOne, ArePairs, record_text, HasForm}
 use Rattle.dist_cert.specs.GroupLaws.{all-at, closed-more}
 use Rattle.dist_cert.specs.Groups.{clause_of, derived, numbered, is_claim, claim_count, group, IsOpen, IsUndecidedIn}
 use Rattle.dist_cert.specs.Subject.{Matter}
 use Rattle.dist_cert.specs.Tried.{EachFollows, IsTried, marked, AreMarksTried}
-use Rattle.dist_check.specs.CheckedPrivate.{AreRight, HaveForms}
+use Rattle.dist_judge.specs.LineLaws.{HaveForms}
+use Rattle.dist_check.specs.CheckedPrivate.{AreRight}
 use Rattle.dist_check.proofs.Told.{stable, less-told}
 use Rattle.dist_check.proofs.TriedTold.{ends-told, undecided-in-told, closed-front}
 use Rattle.dist_check.proofs.Places.{image-of}

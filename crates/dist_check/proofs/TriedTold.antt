@@ -1,20 +1,20 @@
 -- Whether a clause follows by hints, and whether a question is closed among lines, can be told.
-use Rattle.std.proofs.Common.{◌≡◌, ◌≢◌, ◌⊎◌, ⊎_elim, inl, inr, ℕ, ◌+◌, ◌≤◌, Bool, true, false, List, [], ◌∷◌, ◌++◌, length, refl, sym, ap, subst}
+use Rattle.std.proofs.Common.{◌≡◌, ◌≢◌, ◌⊎◌, ⊎_elim, inl, inr, ℕ, true, List, [], ◌∷◌, ◌++◌, length, refl, ap}
 use Rattle.std.proofs.Common.{◌∙◌, arith, length-append}
-use Rattle.std.specs.List.{All, Any, AllPass, Contains}
-use Rattle.std.proofs.lemmas.Bool.{cases_eq, false≢true}
+use Rattle.std.specs.List.{AllPass}
+use Rattle.std.proofs.lemmas.Bool.{cases_eq}
 use Rattle.std.proofs.lemmas.List.Elements.{All-cons, All-nil, All-head, All-tail}
 use Rattle.dist_base.specs.ListLaws.{any-contained}
 use Rattle.dist_clause.specs.Formula.{Literal, literal, negation}
 use Rattle.dist_clause.specs.ClauseList.{clause_at}
-use Rattle.dist_derive.specs.Follows.{IsNumberOf, EndsFalse}
-use Rattle.dist_derive.specs.Propagation.{IsFalse, IsUnset, AllFalse, IsUnit}
+use Rattle.dist_derive.specs.Follows.{EndsFalse}
+use Rattle.dist_derive.specs.Propagation.{IsFalse, IsUnit}
 use Rattle.dist_cert.specs.declared.records.CertRecord.{CertRecord}
 use Rattle.dist_cert.specs.declared.records.CertRecord.TheVariants as lines
 use Rattle.dist_cert.specs.Form.{Word}
-use Rattle.dist_cert.specs.Groups.{leaves_open, IsClosedBy, IsUndecidedIn}
+use Rattle.dist_cert.specs.Groups.{leaves_open, IsUndecidedIn}
 use Rattle.dist_cert.specs.GroupLaws.{none-closed}
-use Rattle.dist_check.proofs.Told.{IsTold, stable, most-told, bool-told, any-told, all-told, contains-told}
+use Rattle.dist_check.proofs.Told.{IsTold, most-told, bool-told, any-told, all-told, contains-told}
 
 both-told : {P Q : Type 0} → IsTold P → IsTold Q → IsTold (P × Q)
 both-told (inl p) (inl q) = inl (p, q)

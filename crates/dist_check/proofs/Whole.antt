@@ -21,9 +21,12 @@ use Rattle.dist_subject.specs.Basis.{Basis, IsAccepted, IsBasisOf, IsLaterOf, La
 use Rattle.dist_subject.specs.Installed.{AreModelsHealthy}
 use Rattle.dist_subject.specs.Later.{later_matter}
 use Rattle.dist_subject.specs.Present.{present_matter}
-use Rattle.dist_check.specs.CheckedPrivate.{AreRight, HaveForms}
+use Rattle.dist_judge.specs.LineLaws.{HaveForms}
+use Rattle.dist_check.specs.CheckedPrivate.{AreRight}
 use Rattle.dist_check.specs.Means.{Means, MeansChallenged, MeansOutdated, MeansStrong, SaysChallenged, SaysOutdated}
-use Rattle.dist_check.proofs.Records.{right-records, has-end}
+use Rattle.dist_judge.specs.WholeLaws.{whole_ended, whole_faultless}
+use Rattle.dist_subject.specs.Certificates.{certificates_of}
+use Rattle.dist_check.proofs.ClearKind.{clear-kind}
 use Rattle.dist_check.proofs.LineLemmas.{WhatFollows, sound-rule}
 use Rattle.dist_check.proofs.Counts.{find-claim, one-each}
 use Rattle.dist_check.proofs.Claims.{AreProven, IsClaimAt, claim-says}
@@ -155,7 +158,7 @@ accepted-mean clear laws r limits text h made ordered (basis, is, (steps, whole,
     subst (Means h.kind h.essential r) (sym claims)
     (basis-means laws r h.kind basis h steps refl is (record {
       ordered = ordered;
-      right = right-records clear (matter_of r basis) limits text h steps whole;
+      right = whole_faultless (certificates_of r) (clear-kind clear r) basis limits text h steps whole;
       forms = whole.faultless.reads.records;
-      ended = has-end (matter_of r basis) limits text h steps whole;
+      ended = whole_ended (certificates_of r) basis limits text h steps whole;
     }))

@@ -12,7 +12,8 @@ use Rattle.dist_cert.specs.declared.records.Header.{Header}
 use Rattle.dist_cert.specs.Form.{header_text, HasHeaderForm}
 use Rattle.dist_check.specs.Checking.{TextAnswers}
 use Rattle.dist_check.specs.Means.{Means}
-use Rattle.dist_cert.specs.Refusal.{BeginsWith, Fits}
+use Rattle.dist_cert.specs.FileLines.{BeginsWith}
+use Rattle.dist_cert.specs.Refusal.{Fits}
 use Rattle.dist_subject.specs.Basis.{Basis, IsAccepted, IsBasisOf, IsRefused, matter_of}
 use Rattle.dist_check.specs.declared.verdict.Verdict.{Verdict}
 use Rattle.dist_check.specs.declared.verdict.Verdict.TheVariants.{Accepted, Refused}

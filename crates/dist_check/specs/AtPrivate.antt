@@ -1,33 +1,25 @@
 -- How what is kept of the lines before a line stands to these lines.
 use Rattle.std.proofs.Common.{◌≡◌, ℕ, ◌+◌, ◌↔◌, true, List, [], ◌∷◌, ◌++◌, Option, Some, None, length}
 use Rattle.std.specs.List.{All, Any, Contains}
-use Rattle.dist_clause.specs.Formula.{Literal}
 use Rattle.dist_cert.specs.declared.records.CertKind.{CertKind}
 use Rattle.dist_cert.specs.declared.records.CertKind.TheVariants as kinds
 use Rattle.dist_cert.specs.declared.records.CertRecord.{CertRecord}
 use Rattle.dist_cert.specs.declared.records.Header.{Header}
 use Rattle.dist_cert.specs.Form.{Word}
-use Rattle.dist_cert.specs.Groups.{derived, installations, claim_count, group, IsOpen, HasOpenQuestion, IsRefutedIn}
+use Rattle.dist_cert.specs.Groups.{derived, installations, claim_count, group, IsRefutedIn}
 use Rattle.dist_cert.specs.Groups.{IsUndecidedIn}
 use Rattle.dist_cert.specs.ClaimRules.{yes, no}
 use Rattle.dist_cert.specs.Accepted.{claims_in}
 use Rattle.dist_cert.specs.Rising.{is_among}
 use Rattle.dist_cert.specs.Subject.{Matter}
-use Rattle.dist_check_state.specs.Future.{StandsForFuture}
-use Rattle.dist_check_state.specs.declared.future.FutureClauses.{FutureClauses}
 use Rattle.dist_check_group.specs.Window.{latest}
 use Rattle.dist_check_group.specs.Closed.{ClosedView}
 use Rattle.dist_check_group.specs.Group.{GroupView}
 use Rattle.dist_check_group.specs.Layout.{LayoutView, present}
 use Rattle.dist_check.specs.CoverPrivate.{IsCoverOf}
 use Rattle.dist_check.specs.LaysOut.{LaysOut}
-use Rattle.dist_check_state.specs.State.{QuestionView, StateView}
-
--- the open question, with the clauses before its line
-abbrev pub IsQuestionOf : List (List Literal) → List CertRecord → Option QuestionView → Type 0
-IsQuestionOf inputs before None = ¬ HasOpenQuestion before
-IsQuestionOf inputs before (Some q) = (earlier since : List CertRecord) × IsOpen before earlier q.assumptions since
-    × (q.last ≡ length (inputs ++ derived earlier))
+use Rattle.dist_check_state.specs.LinesAt.{AreFuturesBy, IsQuestionOf}
+use Rattle.dist_check_state.specs.State.{StateView}
 
 -- the own question of a claim, by the kind and the variable of its package
 abbrev pub own_question : CertKind → ℕ → List Word
@@ -56,11 +48,6 @@ pub record IsGroupOf (layout : LayoutView) (lines : List CertRecord) (v : ℕ) (
   pub refuted : AreClosed (IsRefutedIn lines) layout.kind v kept.refuted
   pub undecided : AreClosed (IsUndecidedIn lines) layout.kind v kept.undecided
   pub gathered : IsGathered layout.kind layout (installations lines) v kept
-
--- the sets of variables that stand for a future are those that make the clauses true that say what a future is
-abbrev pub AreFuturesBy : Matter → FutureClauses → Type 0
-AreFuturesBy matter future = (members : List ℕ)
-    → matter.IsFuture members ↔ StandsForFuture future (is_among members) matter.inputs
 
 -- What is kept is what these lines hold.
 pub record IsAt (matter : Matter) (h : Header) (before : List CertRecord) (s : StateView) : Type 0 where

@@ -11,7 +11,7 @@ use Rattle.dist_cert.specs.declared.records.Header.{Header}
 use Rattle.dist_cert.specs.Refusal.{Fits}
 use Rattle.dist_subject.specs.Basis.{Basis, IsBasisOf, matter_of}
 use Rattle.dist_subject.specs.Limited.{AreInputsWithin, PassesFirst}
-use Rattle.dist_check.specs.AtPrivate.{AreFuturesBy}
+use Rattle.dist_check_state.specs.LinesAt.{AreFuturesBy}
 use Rattle.dist_check.specs.LaysOut.{LaysOut}
 use Rattle.dist_check_group.specs.Group.{empty_group}
 use Rattle.dist_check_state.specs.State.{StateView}

@@ -4,7 +4,8 @@ ghost use Rattle.dist_outside.specs.DeskView.{OnlyReads};
 ghost use Rattle.dist_outside.specs.Files.{IsNotWriting, IsPresent, file_bytes};
 ghost use Rattle.dist_repo.specs.Size.{IsWithinSize};
 ghost use Rattle.dist_check.specs.Answers.{Answers, OnceRead, VerdictMeans};
-ghost use Rattle.dist_check.specs.Checking.{LargeCause, OfText, TextCause};
+ghost use Rattle.dist_check.specs.Checking.{LargeCause, TextCause};
+ghost use Rattle.dist_judge.specs.Judging.{OfText};
 ghost use Rattle.dist_subject.specs.Limited.{AreStated};
 
 use crate::checking::check_text;

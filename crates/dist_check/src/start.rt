@@ -7,12 +7,13 @@ ghost use Rattle.dist_check.specs.Start.{StartAnswers};
 ghost use Rattle.dist_check.specs.StartPrivate.{HasNumbers, IsLargeFault, IsSubject};
 
 use crate::layout::layout_of;
-use dist_cert::{CertCause, CertFault, CertKind, Header, ReadCertError};
+use dist_cert::{CertKind, Header, ReadCertError};
 use dist_check_group::Layout;
 use dist_check_state::{FutureClauses, State};
 use dist_clause::ClauseSet;
 use dist_derive::Log;
 use dist_future::future_clauses_are_two_parts;
+use dist_judge::bad_heading;
 use dist_outside::Limits;
 use dist_repo::Repository;
 use dist_space::packages_come_first;
@@ -26,16 +27,6 @@ struct Subject {
     inputs: ClauseSet,
     layout: Layout,
     future: FutureClauses,
-}
-
-/// The fault of a first line that does not fit.
-fn bad_header() -> ReadCertError
-    ensures { result ≡ ReadCertError.Bad (record { line = 1; cause = CertCause.BadHeader }) }
-{
-    ReadCertError::Bad(CertFault {
-        line: 1,
-        cause: CertCause::BadHeader,
-    })
 }
 
 /// The packages as they are.
@@ -149,7 +140,7 @@ pub(crate) fn start(
         future,
     } = subject;
     if !has_numbers(packages, &inputs, header) {
-        return Err(bad_header());
+        return Err(bad_heading());
     }
     let log = Log::covered(alloc, inputs, limits.lines, limits.line_literals)?;
     Ok(State::new(alloc, header.limit, packages, layout, future, log))

@@ -15,7 +15,7 @@ use Rattle.dist_cert.specs.declared.records.CertRecord.{CertRecord}
 use Rattle.dist_cert.specs.Form.{Word}
 use Rattle.dist_cert.specs.Groups.{installed_in}
 use Rattle.dist_cert.specs.Part.{IsNextQuestion}
-use Rattle.dist_cert.specs.Refusal.{lines_text}
+use Rattle.dist_cert.specs.FileLines.{lines_text}
 use Rattle.dist_sweep.specs.Asking.{AskerView, Holds, IsAsked, question_lines, AskMore, AskStops}
 use Rattle.dist_strong.specs.Group.{GroupView, IsCandidate, IsNarrowed, is_open}
 use Rattle.dist_sweep.specs.Script.{Setting, matter_in}

@@ -11,7 +11,7 @@ use Rattle.dist_cert.specs.declared.records.CertRecord.TheVariants.{Question}
 use Rattle.dist_cert.specs.Form.{Word}
 use Rattle.dist_cert.specs.Groups as lines
 use Rattle.dist_cert.specs.ClaimRules.{yes, no}
-use Rattle.dist_cert.specs.Refusal.{lines_text}
+use Rattle.dist_cert.specs.FileLines.{lines_text}
 use Rattle.dist_sweep.specs.Asking.{AskerView, IsAt}
 use Rattle.dist_strong.specs.Group.{GroupView, is_open}
 use Rattle.dist_sweep.specs.Script.{Setting, Stops, matter_in}

@@ -18,7 +18,8 @@ use Rattle.dist_cert.specs.declared.records.Claim.{Claim}
 use Rattle.dist_cert.specs.declared.records.Header.{Header}
 use Rattle.dist_cert.specs.Accepted.{Accepted}
 use Rattle.dist_cert.specs.Form.{HasHeaderForm}
-use Rattle.dist_cert.specs.Refusal.{BeginsWith, IsTooLong, Refusal}
+use Rattle.dist_cert.specs.FileLines.{BeginsWith, IsTooLong}
+use Rattle.dist_cert.specs.Refusal.{Refusal}
 use Rattle.dist_cert.specs.Subject.{Matter}
 use Rattle.dist_subject.specs.Later.{later_matter}
 use Rattle.dist_subject.specs.Present.{present_matter}

@@ -1,4 +1,5 @@
 pub mod Present
+pub mod Unclaimed
 pub mod Later
 pub mod Basis
 pub mod PresentExamples
@@ -9,6 +10,7 @@ pub mod Limited
 pub mod Inputs
 pub mod InputsPrivate
 pub mod Spoken
+pub mod Certificates
 pub mod Completed
 pub mod TruthLaws
 pub mod MemberLaws

@@ -17,7 +17,7 @@ use Rattle.dist_cert.specs.Form.{Word, record_text, is_end}
 use Rattle.dist_cert.specs.Groups.{clause_of, derived, derived_in}
 use Rattle.dist_cert.specs.Part.{IsNextQuestion}
 use Rattle.dist_cert.specs.PartByRecordsLaws.{IsLine}
-use Rattle.dist_cert.specs.Refusal.{lines_text}
+use Rattle.dist_cert.specs.FileLines.{lines_text}
 use Rattle.dist_cert.specs.Writing.{WriterView, ended}
 use Rattle.dist_sweep.specs.declared.asker.Reply.{Reply}
 use Rattle.dist_sweep.specs.declared.asker.Reply.TheVariants as replies

@@ -29,7 +29,7 @@ use Rattle.dist_cert.specs.declared.records.CertRecord.TheVariants.{Question, De
 use Rattle.dist_cert.specs.Form.{Word}
 use Rattle.dist_cert.specs.Groups.{clause_of, derived, numbered}
 use Rattle.dist_cert.specs.PartByRecordsLaws.{IsLine}
-use Rattle.dist_cert.specs.Refusal.{lines_text}
+use Rattle.dist_cert.specs.FileLines.{lines_text}
 use Rattle.dist_cert.specs.Writing.{WriterView}
 use Rattle.dist_subject.specs.Installed.{AreTrueOf}
 use Rattle.dist_sweep.specs.Asking.{IsLogAt, IsDerived, MayDerive, work_of}

@@ -14,7 +14,8 @@ use Rattle.dist_cert.specs.declared.records.CertRecord.{CertRecord}
 use Rattle.dist_cert.specs.declared.records.Header.{Header}
 use Rattle.dist_cert.specs.Form.{record_text, header_text}
 use Rattle.dist_cert.specs.PartByRecordsLaws.{IsLine, IsShortLine}
-use Rattle.dist_cert.specs.Refusal.{lines_text, certificate_text}
+use Rattle.dist_cert.specs.FileLines.{lines_text}
+use Rattle.dist_cert.specs.Refusal.{certificate_text}
 use Rattle.dist_cert.specs.Writing.{WriterView, HasRoom, PutAnswers, WritesNothing, ended, after_line}
 use Rattle.dist_sweep.specs.Script.{Setting, AllNext, IsWriter, KeepsLines, PutMore, PutStops, matter_in}
 use Rattle.dist_sweep.specs.ScriptLaws.{lines-more, one-line, BeginsLaw, stopped-here, stops-for-memory, by-exit}

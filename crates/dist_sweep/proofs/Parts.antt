@@ -21,9 +21,12 @@ use Rattle.dist_cert.specs.Form.{HasForm, HasHeaderForm, header_text, record_tex
 use Rattle.dist_cert.specs.OneVerdictLaws.{one_line}
 use Rattle.dist_cert.specs.Part.{IsPartOf, Passes}
 use Rattle.dist_cert.specs.PartByRecordsLaws.{AreLines, IsHeaderOf, IsLine, IsShortLine, part_by_records, sound_by_lines}
-use Rattle.dist_cert.specs.Refusal.{Reads, certificate_text, lines_text}
+use Rattle.dist_cert.specs.FileLines.{lines_text}
+use Rattle.dist_cert.specs.Refusal.{Reads, certificate_text}
 use Rattle.dist_cert.specs.Writing.{ended}
-use Rattle.dist_subject.specs.Completed.{IsCompleted, KeepsNumbers}
+use Rattle.dist_judge.specs.Judging.{KeepsNumbers}
+use Rattle.dist_subject.specs.Certificates.{certificates_of}
+use Rattle.dist_subject.specs.Completed.{IsCompleted}
 use Rattle.dist_subject.specs.Basis.{Basis, IsBasisOf, matter_of}
 use Rattle.dist_subject.specs.Limited.{AreInputsWithin}
 use Rattle.dist_sweep.specs.Script.{AllNext, AreWritten, IsCutOff, IsPassed, Setting, matter_in}
@@ -262,7 +265,7 @@ whole r kind essential limit limits basis is kept lines written =
       steps = accepted.0;
       accepted = accepted.1;
       claims = accepted.2;
-      numbers = subst (λ (ls : List CertRecord). KeepsNumbers limits r basis g.header ls) (sym same)
+      numbers = subst (λ (ls : List CertRecord). KeepsNumbers (certificates_of r) limits basis g.header ls) (sym same)
           (record {
             inputs = kept;
             derived_lines = written.kept.count;

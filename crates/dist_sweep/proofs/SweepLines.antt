@@ -18,7 +18,8 @@ use Rattle.dist_cert.specs.Form.{IsSmall, header_text, is_end, record_text}
 use Rattle.dist_cert.specs.Groups.{claim_count}
 use Rattle.dist_cert.specs.LineRules.{HasRecordFault}
 use Rattle.dist_cert.specs.PartByRecordsLaws.{IsLine}
-use Rattle.dist_cert.specs.Refusal.{certificate_text, lines_text}
+use Rattle.dist_cert.specs.FileLines.{lines_text}
+use Rattle.dist_cert.specs.Refusal.{certificate_text}
 use Rattle.dist_cert.specs.Writing.{ended}
 use Rattle.dist_sweep.specs.Asking.{AskerView, IsAt}
 use Rattle.dist_sweep.specs.Claiming.{ClaimMore, ClaimStops, Keeping, MayClaim}

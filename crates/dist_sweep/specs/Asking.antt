@@ -14,7 +14,7 @@ use Rattle.dist_cert.specs.Form.{Word, AreLiterals, is_end}
 use Rattle.dist_cert.specs.Groups.{clause_of, derived}
 use Rattle.dist_cert.specs.Part.{IsNextQuestion}
 use Rattle.dist_cert.specs.PartByRecordsLaws.{IsLine}
-use Rattle.dist_cert.specs.Refusal.{lines_text}
+use Rattle.dist_cert.specs.FileLines.{lines_text}
 use Rattle.dist_cert.specs.Writing.{WriterView}
 use Rattle.dist_subject.specs.Installed.{ModelsStand}
 use Rattle.dist_sweep.specs.Script.{Setting, IsWriter, Stops, matter_in}

@@ -29,7 +29,7 @@ use Rattle.dist_sweep.specs.Asking.{AskerView, IsAt}
 use Rattle.dist_sweep.specs.Claiming.{IsClaimed, IsSwept}
 use Rattle.dist_sweep.specs.QuestionLinesLaws.{claims-push, claims-append}
 use Rattle.dist_sweep.specs.ScriptLaws.{one-line, TwiceLaw, lines-more}
-use Rattle.dist_cert.specs.Refusal.{lines_text}
+use Rattle.dist_cert.specs.FileLines.{lines_text}
 use Rattle.dist_cert.specs.declared.faults.CertCause.TheVariants as causes
 
 pub any-one : {X : Type 0} (P : X → Type 0) (x : X) → Any P (x ∷ []) → P x

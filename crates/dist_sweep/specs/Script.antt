@@ -14,7 +14,8 @@ use Rattle.dist_cert.specs.Form.{record_text, header_text}
 use Rattle.dist_cert.specs.Groups.{derived}
 use Rattle.dist_cert.specs.Part.{Passes}
 use Rattle.dist_cert.specs.PartByRecordsLaws.{IsLine, IsShortLine}
-use Rattle.dist_cert.specs.Refusal.{lines_text, certificate_text}
+use Rattle.dist_cert.specs.FileLines.{lines_text}
+use Rattle.dist_cert.specs.Refusal.{certificate_text}
 use Rattle.dist_cert.specs.Subject.{Matter}
 use Rattle.dist_cert.specs.Writing.{WriterView, ended}
 use Rattle.dist_subject.specs.Basis.{Basis, matter_of}

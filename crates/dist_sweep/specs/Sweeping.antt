@@ -20,7 +20,8 @@ use Rattle.dist_cert.specs.Form.{header_text}
 use Rattle.dist_cert.specs.Groups.{claim_count}
 use Rattle.dist_cert.specs.Part.{Passes}
 use Rattle.dist_cert.specs.PartByRecordsLaws.{IsHeaderOf}
-use Rattle.dist_cert.specs.Refusal.{lines_text, certificate_text}
+use Rattle.dist_cert.specs.FileLines.{lines_text}
+use Rattle.dist_cert.specs.Refusal.{certificate_text}
 use Rattle.dist_cert.specs.Writing.{WriterView, ended}
 use Rattle.dist_subject.specs.Basis.{Basis, IsBasisOf, matter_of}
 use Rattle.dist_subject.specs.Inputs.{AreInputsOf}

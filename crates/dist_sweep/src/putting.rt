@@ -4,7 +4,7 @@ ghost use Rattle.dist_outside.specs.DeskView.{FileGrew};
 ghost use Rattle.dist_outside.specs.Files.{IsWriting};
 ghost use Rattle.dist_solver.specs.Derived.{line_at};
 ghost use Rattle.dist_cert.specs.Form.{AreFromOne, KeepsRules, record_text};
-ghost use Rattle.dist_cert.specs.Refusal.{lines_text};
+ghost use Rattle.dist_cert.specs.FileLines.{lines_text};
 ghost use Rattle.dist_cert.specs.Writing.{ended};
 ghost use Rattle.dist_sweep.specs.Script.{Grows, PutAll, PutAllStops, PutMore, PutStops};
 ghost use Rattle.dist_sweep.specs.Words.{AreDerived, derived_line, derived_lines};

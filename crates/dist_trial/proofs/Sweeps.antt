@@ -22,7 +22,7 @@ use Rattle.dist_cert.specs.declared.records.CertKind.TheVariants as kinds
 use Rattle.dist_subject.specs.Basis.{matter_of}
 use Rattle.dist_sweep.specs.Sweep.{SweepAnswers, header_of}
 use Rattle.dist_check.specs.Answers.{Answers, IsOfText, IsVerdict}
-use Rattle.dist_check.specs.Checking.{OfText}
+use Rattle.dist_judge.specs.Judging.{OfText}
 use Rattle.dist_check.specs.Means.{Means}
 use Rattle.dist_check.specs.declared.verdict.Verdict.{Verdict}
 use Rattle.dist_check.specs.declared.verdict.Verdict.TheVariants.{Accepted, Refused}

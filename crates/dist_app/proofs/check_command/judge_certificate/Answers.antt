@@ -2,7 +2,7 @@ use Rattle.std.proofs.Common.{ℕ, List, Ok, subst}
 use Rattle.dist_outside.specs.DeskView.{DeskView}
 use Rattle.dist_outside.specs.Files.{file_bytes}
 use Rattle.dist_check.specs.Answers.{Answers, VerdictMeans}
-use Rattle.dist_check.specs.Checking.{OfText}
+use Rattle.dist_judge.specs.Judging.{OfText}
 use Rattle.dist_check.specs.declared.verdict.Verdict.{Verdict}
 use Rattle.dist_app.proofs.CertificateStages.{reported}
 use Rattle.dist_app.proofs.check_command.judge_certificate.Goals as goal

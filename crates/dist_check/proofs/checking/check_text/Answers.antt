@@ -1,20 +1,18 @@
-use Rattle.std.proofs.Common.{sym, ◌∙◌, subst, List, [], ◌∷◌, ◌++◌, ℕ, Option, Some, None, Result, IfErr, refl}
+use Rattle.std.proofs.Common.{sym, ◌∙◌, List, [], ◌∷◌, ◌++◌, ℕ, Option, Some, None, Result, IfErr, refl}
 use Rattle.dist_base.specs.Ascii.{line_feed}
 use Rattle.dist_outside.specs.declared.limits.Limits.{Limits}
 use Rattle.dist_repo.specs.PackageList.{PackageList}
 use Rattle.dist_cert.specs.Form.{header_text}
 use Rattle.dist_outside.specs.DeskView.{DeskView}
 use Rattle.dist_outside.specs.Reading.{bytes_left}
-use Rattle.dist_outside.specs.declared.trouble.WorkError.TheVariants.{NoMemory}
 use Rattle.dist_cert.specs.declared.faults.ReadCertError.{ReadCertError}
-use Rattle.dist_cert.specs.declared.faults.ReadCertError.TheVariants.{Work}
-use Rattle.dist_cert.specs.declared.records.Claim.{Claim}
 use Rattle.dist_cert.specs.Reading.{text_left}
 use Rattle.dist_check.specs.declared.checking.Checked.{Checked}
-use Rattle.dist_check.specs.Checking.{LargeCause, TextAnswers, TextCause, OfText}
-use Rattle.dist_check.proofs.CheckSteps.{by-exit, header-stops, start-stops, starts-checked}
-use Rattle.dist_subject.specs.Completed.{IsCompleted}
-use Rattle.dist_check.proofs.CheckText.{accepted-means, nothing-read, stops-alike, completed-alike, later-cause}
+use Rattle.dist_check.specs.Checking.{LargeCause, TextAnswers, TextCause}
+use Rattle.dist_judge.specs.Judging.{OfText}
+use Rattle.dist_judge.specs.ReadingLaws.{by_exit, nothing_read}
+use Rattle.dist_check.proofs.CheckSteps.{header-stops, start-stops, starts-checked}
+use Rattle.dist_check.proofs.CheckText.{accepted-means, completed-alike, later-cause}
 use Rattle.dist_check.proofs.LargeCauses.{header-large, start-large}
 use Rattle.dist_check.proofs.checking.check_text.Goals as goal
 
@@ -23,13 +21,13 @@ returns-in_err-header-clause-text g c =
     let old : DeskView = g.D.Desk.view c.args.desk.now in
     let new : DeskView = g.D.Desk.view c.header.new.desk in
     let told : Option (List ℕ) = bytes_left old.files old.mode in
-    by-exit (λ (r : Result Checked ReadCertError). OfText told
+    by_exit (λ (r : Result Checked ReadCertError). OfText told
     (λ text. TextAnswers (λ (x : Checked). x.header) (λ (x : Checked). x.claims) c.args.repo.now c.args.limits.now text r)) c.from_residual.result
     c.in_err-header.field-0.0
     c.from_residual.ensures.1
     (header-stops c.args.repo.now c.args.limits.now c.new-reader.result c.header.new.self
     told (text_left c.new-reader.result old) (text_left c.header.new.self new) old new
-    c.new-reader.ensures (nothing-read c.args.limits.now c.new-reader.result old c.new-reader.ensures) (λ (x : Checked). x.header) (λ (x : Checked). x.claims)
+    c.new-reader.ensures (nothing_read c.args.limits.now c.new-reader.result old c.new-reader.ensures)
     c.in_err-header.field-0.0 c.in_err-header.ensures.text c.in_err-header.ensures.cause)
 
 pub returns-in_err-state-clause-text : goal.returns-in_err-state-clause-text
@@ -37,14 +35,13 @@ returns-in_err-state-clause-text g c =
     let old : DeskView = g.D.Desk.view c.args.desk.now in
     let new : DeskView = g.D.Desk.view c.header.new.desk in
     let told : Option (List ℕ) = bytes_left old.files old.mode in
-    by-exit (λ (r : Result Checked ReadCertError). OfText told
+    by_exit (λ (r : Result Checked ReadCertError). OfText told
     (λ text. TextAnswers (λ (x : Checked). x.header) (λ (x : Checked). x.claims) c.args.repo.now c.args.limits.now text r))
     c.from_residual-in_err-state.result c.in_err-state.field-0.0
     c.from_residual-in_err-state.ensures.1
     (start-stops c.forms_are_clear.ensures c.args.repo.now c.args.limits.now c.new-reader.result told (text_left c.new-reader.result old)
-    (text_left c.header.new.self new) c.in_ok-header.header c.new-reader.ensures (nothing-read c.args.limits.now c.new-reader.result old c.new-reader.ensures)
-    (λ (x : Checked). x.header) (λ (x : Checked). x.claims) c.in_err-state.field-0.0
-    c.in_ok-header.ensures.text c.in_err-state.ensures)
+    (text_left c.header.new.self new) c.in_ok-header.header c.new-reader.ensures (nothing_read c.args.limits.now c.new-reader.result old c.new-reader.ensures)
+    c.in_err-state.field-0.0 c.in_ok-header.ensures.text c.in_err-state.ensures)
 
 pub claims_behind-requires-clause-variables : goal.claims_behind-requires-clause-variables
 claims_behind-requires-clause-variables g c = c.in_ok-state.ensures.fits.variables ∙ sym c.in_ok-state.ensures.variables
@@ -63,22 +60,20 @@ returns-in_err-claims-clause-text g c =
     let checked = starts-checked c.forms_are_clear.ensures c.models_are_healthy.ensures c.args.repo.now c.len-in_order.ensures.in_order
     c.args.limits.now c.new-reader.result c.header.new.self told
     (text_left c.new-reader.result old) (text_left c.header.new.self new) c.in_ok-header.header c.in_ok-state.state c.new-reader.ensures
-    (nothing-read c.args.limits.now c.new-reader.result old c.new-reader.ensures) c.in_ok-header.ensures.text
+    (nothing_read c.args.limits.now c.new-reader.result old c.new-reader.ensures) c.in_ok-header.ensures.text
     c.in_ok-header.ensures.some c.in_ok-header.ensures.gives c.in_ok-state.ensures in
-    by-exit (λ (r : Result Checked ReadCertError). OfText told
+    by_exit (λ (r : Result Checked ReadCertError). OfText told
     (λ text. TextAnswers (λ (x : Checked). x.header) (λ (x : Checked). x.claims) c.args.repo.now c.args.limits.now text r))
     c.from_residual-in_err-claims.result
     c.in_err-claims.field-0.0 c.from_residual-in_err-claims.ensures.1
-    (stops-alike (λ (made : List Claim). c.in_ok-header.header) (λ (made : List Claim). made) (λ (x : Checked). x.header)
-    (λ (x : Checked). x.claims) c.args.repo.now c.args.limits.now told c.in_err-claims.field-0.0
-    (c.in_err-claims.ensures.text told checked))
+    (c.in_err-claims.ensures.text told checked)
 
 pub returns-in_err-claims-clause-cause : goal.returns-in_err-claims-clause-cause
 returns-in_err-claims-clause-cause g c =
     let old : DeskView = g.D.Desk.view c.args.desk.now in
     let middle : DeskView = g.D.Desk.view c.header.new.desk in
     let new : DeskView = g.D.Desk.view c.claims_behind.new.desk in
-    by-exit (λ (r : Result Checked ReadCertError). IfErr r (TextCause old new)) c.from_residual-in_err-claims.result c.in_err-claims.field-0.0
+    by_exit (λ (r : Result Checked ReadCertError). IfErr r (TextCause old new)) c.from_residual-in_err-claims.result c.in_err-claims.field-0.0
     c.from_residual-in_err-claims.ensures.1
     (later-cause old middle new c.in_err-claims.field-0.0 c.header.ensures.only_reads c.claims_behind.ensures.only_reads c.in_err-claims.ensures.cause)
 
@@ -90,7 +85,7 @@ returns-clause-text g c =
     let checked = starts-checked c.forms_are_clear.ensures c.models_are_healthy.ensures c.args.repo.now c.len-in_order.ensures.in_order
     c.args.limits.now c.new-reader.result c.header.new.self told
     (text_left c.new-reader.result old) (text_left c.header.new.self new) c.in_ok-header.header c.in_ok-state.state c.new-reader.ensures
-    (nothing-read c.args.limits.now c.new-reader.result old c.new-reader.ensures) c.in_ok-header.ensures.text
+    (nothing_read c.args.limits.now c.new-reader.result old c.new-reader.ensures) c.in_ok-header.ensures.text
     c.in_ok-header.ensures.some c.in_ok-header.ensures.gives c.in_ok-state.ensures in
     completed-alike (λ (x : Checked). x.header) (λ (x : Checked). x.claims) c.args.repo.now c.args.limits.now told c.in_ok-header.header
     c.in_ok-claims.claims
@@ -104,20 +99,20 @@ returns-clause-means g c =
 
 pub returns-in_err-header-clause-large : goal.returns-in_err-header-clause-large
 returns-in_err-header-clause-large g c =
-    by-exit (λ (r : Result Checked ReadCertError). IfErr r (LargeCause c.args.repo.now c.args.limits.now)) c.from_residual.result c.in_err-header.field-0.0
+    by_exit (λ (r : Result Checked ReadCertError). IfErr r (LargeCause c.args.repo.now c.args.limits.now)) c.from_residual.result c.in_err-header.field-0.0
     c.from_residual.ensures.1
     (header-large c.args.repo.now c.args.limits.now c.new-reader.result c.header.new.self (g.D.Desk.view c.args.desk.now) (g.D.Desk.view c.header.new.desk)
     c.in_err-header.field-0.0 c.in_err-header.ensures.cause)
 
 pub returns-in_err-state-clause-large : goal.returns-in_err-state-clause-large
 returns-in_err-state-clause-large g c =
-    by-exit (λ (r : Result Checked ReadCertError). IfErr r (LargeCause c.args.repo.now c.args.limits.now)) c.from_residual-in_err-state.result
+    by_exit (λ (r : Result Checked ReadCertError). IfErr r (LargeCause c.args.repo.now c.args.limits.now)) c.from_residual-in_err-state.result
     c.in_err-state.field-0.0 c.from_residual-in_err-state.ensures.1
     (start-large c.args.repo.now c.args.limits.now c.in_ok-header.header c.in_err-state.field-0.0 c.in_err-state.ensures)
 
 pub returns-in_err-claims-clause-large : goal.returns-in_err-claims-clause-large
 returns-in_err-claims-clause-large g c =
-    by-exit (λ (r : Result Checked ReadCertError). IfErr r (LargeCause c.args.repo.now c.args.limits.now)) c.from_residual-in_err-claims.result
+    by_exit (λ (r : Result Checked ReadCertError). IfErr r (LargeCause c.args.repo.now c.args.limits.now)) c.from_residual-in_err-claims.result
     c.in_err-claims.field-0.0 c.from_residual-in_err-claims.ensures.1
     c.in_err-claims.ensures.large
 
@@ -129,34 +124,30 @@ Some_text r limits result = (text : List ℕ) × TextAnswers (λ (x : Checked). 
 pub returns-in_err-header-clause-some : goal.returns-in_err-header-clause-some
 returns-in_err-header-clause-some g c =
     let some = c.in_err-header.ensures.some in
-    by-exit (Some_text c.args.repo.now c.args.limits.now) c.from_residual.result c.in_err-header.field-0.0 c.from_residual.ensures.1 (
+    by_exit (Some_text c.args.repo.now c.args.limits.now) c.from_residual.result c.in_err-header.field-0.0 c.from_residual.ensures.1 (
       some.0,
       header-stops c.args.repo.now c.args.limits.now c.new-reader.result
           c.header.new.self (Some some.0) (Some some.0) (Some some.0) (g.D.Desk.view c.args.desk.now) (g.D.Desk.view c.header.new.desk)
-          c.new-reader.ensures refl (λ (x : Checked). x.header) (λ (x : Checked). x.claims) c.in_err-header.field-0.0 (some.0, refl, some.1)
+          c.new-reader.ensures refl c.in_err-header.field-0.0 (some.0, refl, some.1)
           c.in_err-header.ensures.cause,
     )
 
 pub returns-in_err-state-clause-some : goal.returns-in_err-state-clause-some
 returns-in_err-state-clause-some g c =
     let text : List ℕ = header_text c.in_ok-header.header ++ line_feed ∷ [] in
-    by-exit (Some_text c.args.repo.now c.args.limits.now) c.from_residual-in_err-state.result c.in_err-state.field-0.0
+    by_exit (Some_text c.args.repo.now c.args.limits.now) c.from_residual-in_err-state.result c.in_err-state.field-0.0
     c.from_residual-in_err-state.ensures.1 (
       text,
       start-stops c.forms_are_clear.ensures c.args.repo.now c.args.limits.now c.new-reader.result (Some text) (Some text) (Some []) c.in_ok-header.header
           c.new-reader.ensures refl
-          (λ (x : Checked). x.header) (λ (x : Checked). x.claims) c.in_err-state.field-0.0 ([], refl, c.in_ok-header.ensures.some []) c.in_err-state.ensures,
+          c.in_err-state.field-0.0 ([], refl, c.in_ok-header.ensures.some []) c.in_err-state.ensures,
     )
 
 pub returns-in_err-claims-clause-some : goal.returns-in_err-claims-clause-some
 returns-in_err-claims-clause-some g c =
     let some = c.in_err-claims.ensures.some in
-    by-exit (Some_text c.args.repo.now c.args.limits.now) c.from_residual-in_err-claims.result c.in_err-claims.field-0.0
-    c.from_residual-in_err-claims.ensures.1 (
-      some.0,
-      stops-alike (λ (made : List Claim). c.in_ok-header.header) (λ (made : List Claim). made) (λ (x : Checked). x.header)
-          (λ (x : Checked). x.claims) c.args.repo.now c.args.limits.now (Some some.0) c.in_err-claims.field-0.0 some.1,
-    )
+    by_exit (Some_text c.args.repo.now c.args.limits.now) c.from_residual-in_err-claims.result c.in_err-claims.field-0.0
+    c.from_residual-in_err-claims.ensures.1 some
 
 pub returns-clause-some : goal.returns-clause-some
 returns-clause-some g c =

@@ -7,9 +7,10 @@ use Rattle.dist_cert.specs.declared.faults.ReadCertError.{ReadCertError}
 use Rattle.dist_cert.specs.declared.faults.ReadCertError.TheVariants.{Work}
 use Rattle.dist_cert.specs.declared.records.Claim.{Claim}
 use Rattle.dist_cert.specs.declared.records.Header.{Header}
-use Rattle.dist_check.specs.Checking.{LargeCause, TextAnswers, TextCause, OfText}
-use Rattle.dist_check.proofs.CheckSteps.{by-exit}
-use Rattle.dist_check.proofs.CheckText.{stops-alike, completed-alike, no-memory}
+use Rattle.dist_check.specs.Checking.{LargeCause, TextAnswers, TextCause}
+use Rattle.dist_judge.specs.Judging.{OfText}
+use Rattle.dist_judge.specs.ReadingLaws.{by_exit}
+use Rattle.dist_check.proofs.CheckText.{completed-alike, no-memory}
 use Rattle.dist_check.proofs.checking.claims_behind.Goals as goal
 
 -- the answer of a text, where it is told
@@ -25,35 +26,28 @@ take_lines-requires-clause-tools g c = c.in_ok-tools.ensures ∙ c.requires.vari
 
 pub returns-in_err-tools-clause-text : goal.returns-in_err-tools-clause-text
 returns-in_err-tools-clause-text g c = λ told x.
-    by-exit (Of_text c.args.header.now c.args.repo.now c.args.limits.now told) c.from_residual.result (Work NoMemory) c.from_residual.ensures.1
-    (no-memory (λ (made : List Claim). c.args.header.now) (λ (made : List Claim). made) c.args.repo.now c.args.limits.now told)
+    by_exit (Of_text c.args.header.now c.args.repo.now c.args.limits.now told) c.from_residual.result (Work NoMemory) c.from_residual.ensures.1
+    (no-memory c.args.repo.now c.args.limits.now told)
 
 pub returns-in_err-tools-clause-some : goal.returns-in_err-tools-clause-some
 returns-in_err-tools-clause-some g c =
-    by-exit (Some_text c.args.header.now c.args.repo.now c.args.limits.now) c.from_residual.result (Work NoMemory) c.from_residual.ensures.1 ([], tt)
+    by_exit (Some_text c.args.header.now c.args.repo.now c.args.limits.now) c.from_residual.result (Work NoMemory) c.from_residual.ensures.1 ([], tt)
 
 pub returns-in_err-tools-clause-cause : goal.returns-in_err-tools-clause-cause
 returns-in_err-tools-clause-cause g c =
     let old : DeskView = g.D.Desk.view c.args.desk.now in
-    by-exit (λ (r : Result (List Claim) ReadCertError). IfErr r (TextCause old old)) c.from_residual.result (Work NoMemory) c.from_residual.ensures.1 tt
+    by_exit (λ (r : Result (List Claim) ReadCertError). IfErr r (TextCause old old)) c.from_residual.result (Work NoMemory) c.from_residual.ensures.1 tt
 
 pub returns-in_err-tools-clause-large : goal.returns-in_err-tools-clause-large
 returns-in_err-tools-clause-large g c =
-    by-exit (λ (r : Result (List Claim) ReadCertError). IfErr r (LargeCause c.args.repo.now c.args.limits.now)) c.from_residual.result (Work NoMemory)
+    by_exit (λ (r : Result (List Claim) ReadCertError). IfErr r (LargeCause c.args.repo.now c.args.limits.now)) c.from_residual.result (Work NoMemory)
     c.from_residual.ensures.1 tt
 
 pub returns-in-Err-clause-text : goal.returns-in-Err-clause-text
-returns-in-Err-clause-text g c = λ told x.
-    stops-alike (λ (u : Unit {0}). c.args.header.now) (λ (u : Unit {0}). c.take_lines.new.state.claims) (λ (made : List Claim). c.args.header.now)
-    (λ (made : List Claim). made) c.args.repo.now c.args.limits.now told c.in-Err.error (c.in-Err.ensures.text told x)
+returns-in-Err-clause-text g c = λ told x. c.in-Err.ensures.text told x
 
 pub returns-in-Err-clause-some : goal.returns-in-Err-clause-some
-returns-in-Err-clause-some g c =
-    let some = c.in-Err.ensures.some in (
-      some.0,
-      stops-alike (λ (u : Unit {0}). c.args.header.now) (λ (u : Unit {0}). c.take_lines.new.state.claims) (λ (made : List Claim). c.args.header.now)
-          (λ (made : List Claim). made) c.args.repo.now c.args.limits.now (Some some.0) c.in-Err.error some.1,
-    )
+returns-in-Err-clause-some g c = c.in-Err.ensures.some
 
 pub returns-in-Ok-clause-text : goal.returns-in-Ok-clause-text
 returns-in-Ok-clause-text g c = λ told x.

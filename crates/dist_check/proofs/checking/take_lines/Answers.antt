@@ -6,9 +6,11 @@ use Rattle.dist_cert.specs.declared.records.CertRecord.{CertRecord}
 use Rattle.dist_cert.specs.Form.{record_text}
 use Rattle.dist_cert.specs.Refusal.{certificate_text}
 use Rattle.dist_cert.specs.Reading.{ReaderView, RecordAnswers, RecordCause, RecordOfSome, GivesRecord, WhereTold, text_left}
-use Rattle.dist_check.specs.Checking.{LargeCause, TextAnswers, OfText}
-use Rattle.dist_check.proofs.CheckState.{next-stops, completes, count-fits}
-use Rattle.dist_check.proofs.CheckSteps.{by-exit, at-bytes, line-stops, next-checked, limits-stay, variables-stay, reads-on}
+use Rattle.dist_judge.specs.Judging.{OfText}
+use Rattle.dist_check.specs.Checking.{LargeCause, TextAnswers}
+use Rattle.dist_judge.specs.ReadingLaws.{by_exit, reads_on}
+use Rattle.dist_check.proofs.CheckState.{at-bytes, completes, count-fits, line-stops, next-checked, next-stops}
+use Rattle.dist_check.proofs.CheckSteps.{limits-stay, variables-stay}
 use Rattle.dist_check.proofs.LargeCauses.{record-large, line-large}
 use Rattle.dist_check.proofs.checking.take_lines.Goals as goal
 
@@ -16,21 +18,20 @@ pub returns-in_err-step-clause-text : goal.returns-in_err-step-clause-text
 returns-in_err-step-clause-text g c = λ told x.
     let left : Option (List ℕ) = text_left c.lines.reader (g.D.Desk.view c.lines.desk) in
     let after : Option (List ℕ) = text_left c.next.new.self (g.D.Desk.view c.next.new.desk) in
-    by-exit (λ (r : Result (Unit {0}) ReadCertError). OfText told
+    by_exit (λ (r : Result (Unit {0}) ReadCertError). OfText told
     (λ text. TextAnswers (λ (u : Unit {0}). c.args.header.now) (λ (u : Unit {0}). c.lines.state.claims) c.args.repo.now c.args.limits.now text r))
     c.from_residual.result c.in_err-step.field-0.0
     c.from_residual.ensures.1
-    (next-stops c.forms_are_clear.ensures c.args.repo.now c.args.limits.now told c.args.header.now c.lines.reader c.next.new.self left after c.lines.state
-    (g.D.Desk.view c.lines.desk) (g.D.Desk.view c.next.new.desk)
-    (c.lines.invariant.told told x) c.lines-within.ensures.within (λ (u : Unit {0}). c.args.header.now) (λ (u : Unit {0}). c.lines.state.claims)
+    (next-stops c.forms_are_clear.ensures c.args.repo.now c.args.limits.now told c.args.header.now c.lines.reader left c.lines.state
+    (c.lines.invariant.told told x) c.lines-within.ensures.within c.next.new.self after (g.D.Desk.view c.lines.desk) (g.D.Desk.view c.next.new.desk)
     c.in_err-step.field-0.0 c.in_err-step.ensures.text c.in_err-step.ensures.cause)
 
 pub returns-in_default-clause-text : goal.returns-in_default-clause-text
 returns-in_default-clause-text g c = λ told x.
     let left : Option (List ℕ) = text_left c.lines.reader (g.D.Desk.view c.lines.desk) in
     let after : Option (List ℕ) = text_left c.next.new.self (g.D.Desk.view c.next.new.desk) in
-    completes c.forms_are_clear.ensures c.args.repo.now c.args.limits.now told c.args.header.now c.lines.reader left after c.lines.state
-    (c.lines.invariant.told told x) c.lines-within.ensures.within
+    completes c.forms_are_clear.ensures c.args.repo.now c.args.limits.now told c.args.header.now c.lines.reader left c.lines.state
+    (c.lines.invariant.told told x) c.lines-within.ensures.within after
     (subst (λ (o : Option CertRecord). WhereTold left after (λ rest more. RecordAnswers c.lines.reader rest more (Ok o))) c.in_default.is
     c.in_ok-step.ensures.text)
 
@@ -55,16 +56,16 @@ lines-preserved g c =
     let takes = c.in_ok-take_line.ensures.ok in
     let limits = limits-stay c.lines.state c.take_line.new.state step takes.none takes.becomes in
     record {
-      checked = next-checked c.forms_are_clear.ensures c.args.repo.now c.args.limits.now None c.args.header.now c.lines.reader c.next.new.self None None
-          c.lines.state c.take_line.new.state old new c.lines.invariant.checked
-          c.lines-within.ensures.within step refl cause some gives takes limits.0 limits.1;
-      told = λ told x. next-checked c.forms_are_clear.ensures c.args.repo.now c.args.limits.now told c.args.header.now c.lines.reader c.next.new.self left after
-          c.lines.state c.take_line.new.state old new (c.lines.invariant.told told x)
-          c.lines-within.ensures.within step answers cause some gives takes limits.0 limits.1;
+      checked = next-checked c.forms_are_clear.ensures c.args.repo.now c.args.limits.now None c.args.header.now c.lines.reader None c.lines.state
+          c.lines.invariant.checked c.lines-within.ensures.within c.next.new.self None old new step refl cause some gives c.take_line.new.state takes
+          limits.0 limits.1;
+      told = λ told x. next-checked c.forms_are_clear.ensures c.args.repo.now c.args.limits.now told c.args.header.now c.lines.reader left c.lines.state
+          (c.lines.invariant.told told x) c.lines-within.ensures.within c.next.new.self after old new step answers cause some gives c.take_line.new.state
+          takes limits.0 limits.1;
       tools = c.in_ok-take_line.ensures.ready ∙ c.lines.invariant.tools
           ∙ sym (variables-stay c.lines.state c.take_line.new.state step takes.none takes.becomes);
       reading = c.next.ensures.reading;
-      only_reads = reads-on (g.D.Desk.view c.args.desk.now) old new c.lines.invariant.only_reads c.next.ensures.only_reads;
+      only_reads = reads_on (g.D.Desk.view c.args.desk.now) old new c.lines.invariant.only_reads c.next.ensures.only_reads;
     }
 
 pub returns-in_err-take_line-clause-text : goal.returns-in_err-take_line-clause-text
@@ -77,26 +78,24 @@ returns-in_err-take_line-clause-text g c = λ told x.
     c.in_ok-step.ensures.text in
     let cause = subst (λ (o : Option CertRecord). RecordCause c.lines.reader c.next.new.self old new (Ok o)) c.in-Some.is c.in_ok-step.ensures.cause in
     let gives = subst (λ (o : Option CertRecord). GivesRecord c.lines.reader c.next.new.self (Ok o)) c.in-Some.is c.in_ok-step.ensures.gives in
-    by-exit (λ (r : Result (Unit {0}) ReadCertError). OfText told
+    by_exit (λ (r : Result (Unit {0}) ReadCertError). OfText told
     (λ text. TextAnswers (λ (u : Unit {0}). c.args.header.now) (λ (u : Unit {0}). c.take_line.new.state.claims) c.args.repo.now c.args.limits.now text r))
     c.from_residual-in_err-take_line.result
     c.in_err-take_line.field-0.0 c.from_residual-in_err-take_line.ensures.1
-    (line-stops c.forms_are_clear.ensures c.args.repo.now c.args.limits.now told c.args.header.now c.lines.reader c.next.new.self left after c.lines.state old
-    new (c.lines.invariant.told told x) c.lines-within.ensures.within
-    c.in-Some.step answers cause c.lines-line.result (c.lines-line.ensures.value ∙ ap (λ (v : ReaderView). v.lines) gives) (λ (u : Unit {0}). c.args.header.now)
-    (λ (u : Unit {0}). c.take_line.new.state.claims) c.in_err-take_line.field-0.0
-    c.in_err-take_line.ensures.err)
+    (line-stops c.forms_are_clear.ensures c.args.repo.now c.args.limits.now told c.args.header.now c.lines.reader left c.lines.state
+    (c.lines.invariant.told told x) c.lines-within.ensures.within c.next.new.self after old new c.in-Some.step answers cause c.lines-line.result
+    (c.lines-line.ensures.value ∙ ap (λ (v : ReaderView). v.lines) gives) c.in_err-take_line.field-0.0 c.in_err-take_line.ensures.err)
 
 pub returns-in_err-step-clause-large : goal.returns-in_err-step-clause-large
 returns-in_err-step-clause-large g c =
-    by-exit (λ (r : Result (Unit {0}) ReadCertError). IfErr r (LargeCause c.args.repo.now c.args.limits.now)) c.from_residual.result c.in_err-step.field-0.0
+    by_exit (λ (r : Result (Unit {0}) ReadCertError). IfErr r (LargeCause c.args.repo.now c.args.limits.now)) c.from_residual.result c.in_err-step.field-0.0
     c.from_residual.ensures.1
     (record-large c.args.repo.now c.args.limits.now c.lines.reader c.next.new.self (g.D.Desk.view c.lines.desk) (g.D.Desk.view c.next.new.desk)
     c.in_err-step.field-0.0 c.in_err-step.ensures.cause)
 
 pub returns-in_err-take_line-clause-large : goal.returns-in_err-take_line-clause-large
 returns-in_err-take_line-clause-large g c =
-    by-exit (λ (r : Result (Unit {0}) ReadCertError). IfErr r (LargeCause c.args.repo.now c.args.limits.now)) c.from_residual-in_err-take_line.result
+    by_exit (λ (r : Result (Unit {0}) ReadCertError). IfErr r (LargeCause c.args.repo.now c.args.limits.now)) c.from_residual-in_err-take_line.result
     c.in_err-take_line.field-0.0 c.from_residual-in_err-take_line.ensures.1
     (line-large c.args.repo.now c.args.limits.now c.lines.state c.in-Some.step c.lines-line.result c.in_err-take_line.field-0.0 c.in_err-take_line.ensures.err)
 
@@ -107,14 +106,13 @@ returns-in_err-step-clause-some g c =
     let x = c.lines.invariant.checked in
     let some = c.in_err-step.ensures.some in
     let text : List ℕ = certificate_text c.args.header.now x.before ++ some.0 in
-    by-exit (λ (r : Result (Unit {0}) ReadCertError). (text : List ℕ) × TextAnswers (λ (u : Unit {0}). c.args.header.now)
+    by_exit (λ (r : Result (Unit {0}) ReadCertError). (text : List ℕ) × TextAnswers (λ (u : Unit {0}). c.args.header.now)
     (λ (u : Unit {0}). c.lines.state.claims) c.args.repo.now c.args.limits.now text r)
     c.from_residual.result c.in_err-step.field-0.0 c.from_residual.ensures.1 (
       text,
-      next-stops c.forms_are_clear.ensures c.args.repo.now c.args.limits.now (Some text) c.args.header.now c.lines.reader c.next.new.self
-          (Some some.0) (Some some.0) c.lines.state (g.D.Desk.view c.lines.desk) (g.D.Desk.view c.next.new.desk)
+      next-stops c.forms_are_clear.ensures c.args.repo.now c.args.limits.now (Some text) c.args.header.now c.lines.reader (Some some.0) c.lines.state
           (at-bytes c.args.repo.now c.args.limits.now c.args.header.now c.lines.reader c.lines.state x some.0) c.lines-within.ensures.within
-          (λ (u : Unit {0}). c.args.header.now) (λ (u : Unit {0}). c.lines.state.claims) c.in_err-step.field-0.0 (some.0, refl, some.1)
+          c.next.new.self (Some some.0) (g.D.Desk.view c.lines.desk) (g.D.Desk.view c.next.new.desk) c.in_err-step.field-0.0 (some.0, refl, some.1)
           c.in_err-step.ensures.cause,
     )
 
@@ -123,8 +121,8 @@ returns-in_default-clause-some g c =
     let x = c.lines.invariant.checked in
     let text : List ℕ = certificate_text c.args.header.now x.before ++ [] in (
       text,
-      completes c.forms_are_clear.ensures c.args.repo.now c.args.limits.now (Some text) c.args.header.now c.lines.reader (Some []) (Some []) c.lines.state
-          (at-bytes c.args.repo.now c.args.limits.now c.args.header.now c.lines.reader c.lines.state x []) c.lines-within.ensures.within
+      completes c.forms_are_clear.ensures c.args.repo.now c.args.limits.now (Some text) c.args.header.now c.lines.reader (Some []) c.lines.state
+          (at-bytes c.args.repo.now c.args.limits.now c.args.header.now c.lines.reader c.lines.state x []) c.lines-within.ensures.within (Some [])
           ([], refl, subst (λ (o : Option CertRecord). RecordOfSome c.lines.reader (Ok o)) c.in_default.is c.in_ok-step.ensures.some),
     )
 
@@ -138,14 +136,12 @@ returns-in_err-take_line-clause-some g c =
     let some = subst (λ (o : Option CertRecord). RecordOfSome c.lines.reader (Ok o)) c.in-Some.is c.in_ok-step.ensures.some in
     let cause = subst (λ (o : Option CertRecord). RecordCause c.lines.reader c.next.new.self old new (Ok o)) c.in-Some.is c.in_ok-step.ensures.cause in
     let gives = subst (λ (o : Option CertRecord). GivesRecord c.lines.reader c.next.new.self (Ok o)) c.in-Some.is c.in_ok-step.ensures.gives in
-    by-exit (λ (r : Result (Unit {0}) ReadCertError). (text : List ℕ) × TextAnswers (λ (u : Unit {0}). c.args.header.now)
+    by_exit (λ (r : Result (Unit {0}) ReadCertError). (text : List ℕ) × TextAnswers (λ (u : Unit {0}). c.args.header.now)
     (λ (u : Unit {0}). c.take_line.new.state.claims) c.args.repo.now c.args.limits.now text r)
     c.from_residual-in_err-take_line.result c.in_err-take_line.field-0.0 c.from_residual-in_err-take_line.ensures.1 (
       text,
-      line-stops c.forms_are_clear.ensures c.args.repo.now c.args.limits.now (Some text) c.args.header.now c.lines.reader c.next.new.self
-          (Some rest) (Some []) c.lines.state old new
+      line-stops c.forms_are_clear.ensures c.args.repo.now c.args.limits.now (Some text) c.args.header.now c.lines.reader (Some rest) c.lines.state
           (at-bytes c.args.repo.now c.args.limits.now c.args.header.now c.lines.reader c.lines.state x rest) c.lines-within.ensures.within
-          c.in-Some.step ([], refl, some []) cause c.lines-line.result (c.lines-line.ensures.value ∙ ap (λ (v : ReaderView). v.lines) gives)
-          (λ (u : Unit {0}). c.args.header.now) (λ (u : Unit {0}). c.take_line.new.state.claims) c.in_err-take_line.field-0.0
-          c.in_err-take_line.ensures.err,
+          c.next.new.self (Some []) old new c.in-Some.step ([], refl, some []) cause c.lines-line.result
+          (c.lines-line.ensures.value ∙ ap (λ (v : ReaderView). v.lines) gives) c.in_err-take_line.field-0.0 c.in_err-take_line.ensures.err,
     )

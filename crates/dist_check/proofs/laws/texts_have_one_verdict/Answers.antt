@@ -5,4 +5,4 @@ pub returns-clause-right : goal.returns-clause-right
 returns-clause-right c = right c.forms_are_clear.ensures
 
 pub returns-clause-one : goal.returns-clause-one
-returns-clause-one c = one c.forms_are_clear.ensures c.bases_are_one.ensures.one
+returns-clause-one c = λ r. one c.forms_are_clear.ensures r (λ h basis also. c.bases_are_one.ensures.one r h.kind h.essential basis also)

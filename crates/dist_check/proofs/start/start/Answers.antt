@@ -20,6 +20,6 @@ returns-then-not-has_numbers c =
     let subject = c.in_ok-subject.subject in
     let wrong : ¬ HasNumbers subject.packages subject.inputs c.args.header.now =
     λ numbers. true≢false (sym (c.has_numbers.ensures.1 numbers) ∙ c.if-not-has_numbers.true) in
-    rw c.bad_header.ensures
+    rw c.bad_heading.ensures
     (fits-numbers c.args.repo.now c.args.limits.now c.args.header.now subject.packages subject.inputs subject.layout subject.future
     c.in_ok-subject.ensures.ok wrong)

@@ -6,7 +6,7 @@ use Rattle.dist_solver.specs.Ask.{IsAnswer}
 use Rattle.dist_solver.specs.Derived.{DerivedLine}
 use Rattle.dist_solver.specs.declared.answers.Answer.{Answer}
 use Rattle.dist_solver.specs.declared.answers.AskError.{AskError}
-use Rattle.dist_cert.specs.Refusal.{lines_text}
+use Rattle.dist_cert.specs.FileLines.{lines_text}
 use Rattle.dist_cert.specs.declared.records.CertRecord.{CertRecord}
 use Rattle.dist_sweep.specs.Script.{PutAll, PutAllStops}
 use Rattle.dist_sweep.specs.Words.{AreDerived, derived_lines}

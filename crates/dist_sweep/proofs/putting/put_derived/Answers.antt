@@ -5,7 +5,7 @@ use Rattle.dist_outside.specs.declared.trouble.WorkError.{WorkError}
 use Rattle.dist_solver.specs.Derived.{DerivedLine, line_at}
 use Rattle.dist_cert.specs.declared.records.CertRecord.{CertRecord}
 use Rattle.dist_cert.specs.Form.{record_text}
-use Rattle.dist_cert.specs.Refusal.{lines_text}
+use Rattle.dist_cert.specs.FileLines.{lines_text}
 use Rattle.dist_cert.specs.Writing.{ended}
 use Rattle.dist_sweep.specs.Script.{IsWriter, KeepsLines, PutAllStops}
 use Rattle.dist_sweep.specs.Words.{derived_line, derived_lines}

@@ -1,7 +1,7 @@
 use Rattle.std.proofs.Common.{take}
 use Rattle.dist_outside.specs.DeskView.{FileGrew}
 use Rattle.dist_outside.specs.Files.{IsWriting}
-use Rattle.dist_cert.specs.Refusal.{lines_text}
+use Rattle.dist_cert.specs.FileLines.{lines_text}
 use Rattle.dist_sweep.specs.Script.{PutFront}
 use Rattle.dist_sweep.specs.Words.{derived_lines}
 use Rattle.dist_sweep.proofs.putting.put_derived.Given as goal

@@ -1,0 +1,13 @@
+use Rattle.std.proofs.Common.{inl, inr}
+use Rattle.dist_journal.specs.FollowPrivate.{entry_of}
+use Rattle.dist_journal.proofs.ReadLemmas.{block-fault}
+use Rattle.dist_journal.proofs.reading.read_new_name.Goals as goal
+
+pub returns-in-Ok-clause-answers : goal.returns-in-Ok-clause-answers
+returns-in-Ok-clause-answers c = λ s packages. (c.requires, c.in-Ok.ensures)
+
+pub returns-in-Err-clause-answers : goal.returns-in-Err-clause-answers
+returns-in-Err-clause-answers c = λ s packages. elim c.in-Err.ensures [
+  | inl none ↦ inl none
+  | inr is ↦ inr (block-fault s c.args.stanzas packages (entry_of c.args.section.now) c.in-Err.error (inr c.requires) is)
+]

@@ -1,0 +1,12 @@
+pub mod Journal
+pub mod Blocks
+pub mod Steps
+pub mod Faults
+pub mod Follow
+pub mod BrokenOrder
+pub mod Broken
+pub mod CutPrivate
+pub mod FollowPrivate
+pub mod PairsPrivate
+pub mod BreakingPrivate
+pub mod JournalExamples

@@ -1,0 +1,9 @@
+pub mod FileKind
+pub mod Judging
+pub mod ClearKindLaws
+pub mod HeadingLaws
+pub mod LineLaws
+pub mod ReadingLaws
+pub mod WholeLaws
+pub mod VerdictLaws
+pub mod AnswerLaws
