@@ -8,8 +8,8 @@ use Rattle.dist_challenge.specs.CoverPrivate.{IsPlan, covered_by}
 use Rattle.dist_challenge.proofs.CoverSteps.{plan-struck}
 use Rattle.dist_challenge.proofs.challenged_claimant.ChallengedClaimant.strike_by.Goals as goal
 
-pub returns-in_ok-push-clause-plan : goal.returns-in_ok-push-clause-plan
-returns-in_ok-push-clause-plan c =
+pub returns-then-lasts-clause-plan : goal.returns-then-lasts-clause-plan
+returns-then-lasts-clause-plan c =
     let self : ChallengedView = c.args.self.now in
     let kept : WindowView = c.args.window.now in
     let is : c.in_ok-left.left.items ≡ filter (λ at. not (covered_by self kept c.args.number at)) c.args.ats.now.items =
@@ -25,8 +25,8 @@ returns-in_ok-push-clause-plan c =
     (plan-struck self kept present own today c.args.number c.args.named.now.items c.args.ats.now.items c.in_ok-left.left.items c.requires.kept
     (omega (arith, low, few)) has other (omega (arith, lasts, long, c.in_ok-left.left.ok.0)) fewer is plan)
 
-pub returns-in_ok-push-clause-inside : goal.returns-in_ok-push-clause-inside
-returns-in_ok-push-clause-inside c =
+pub returns-then-lasts-clause-inside : goal.returns-then-lasts-clause-inside
+returns-then-lasts-clause-inside c =
     let self : ChallengedView = c.args.self.now in
     let kept : WindowView = c.args.window.now in
     let is : c.in_ok-left.left.items ≡ filter (λ at. not (covered_by self kept c.args.number at)) c.args.ats.now.items =
