@@ -40,17 +40,15 @@ use Rattle.dist_journal.specs.declared.step_line.StepLine.TheVariants.{Upload, R
 
 -- ---- two ways to cut a list at an element
 
-Cut : {X : Type 0} (a b : List X) (x y : X) → Type 0
+abbrev Cut : {X : Type 0} (a b : List X) (x y : X) → Type 0
 Cut {X} a b x y = ((a ≡ b) × (x ≡ y)) ⊎ (((z : List X) × (b ≡ a ++ x ∷ z)) ⊎ ((z : List X) × (a ≡ b ++ y ∷ z)))
 
 cut-cons : {X : Type 0} (u v : X) (a b : List X) (x y : X) → u ≡ v → Cut a b x y → Cut (u ∷ a) (v ∷ b) x y
-unfolding Cut
 cut-cons {X} u v a b x y same (inl both) = inl (rw (same, both.0) refl, both.1)
 cut-cons {X} u v a b x y same (inr (inl later)) = inr (inl (later.0, rw (same, later.1) refl))
 cut-cons {X} u v a b x y same (inr (inr later)) = inr (inr (later.0, rw (same, later.1) refl))
 
 cuts : {X : Type 0} (a b : List X) (x y : X) (after rest : List X) → a ++ x ∷ after ≡ b ++ y ∷ rest → Cut a b x y
-unfolding Cut
 cuts [] [] x y after rest is = inl (refl, let same : x ≡ y = cc in same)
 cuts [] (v ∷ b) x y after rest is = inr (inl (b, let same : x ≡ v = cc in ap (λ w. w ∷ b) (sym same)))
 cuts (u ∷ a) [] x y after rest is = inr (inr (a, let same : u ≡ y = cc in ap (λ w. w ∷ a) same))
@@ -73,7 +71,6 @@ not-stray number list place blank stray =
     false≢true (sym stray.stray ∙ middle IsBlank stray.before stray.line stray.after (subst AreBlank stray.pieces blank))
 
 one-stray : (number : ℕ) (list : List (List ℕ)) (place other : ℕ) → IsFirstStray number list place → IsFirstStray number list other → other ≡ place
-unfolding Cut
 one-stray number list place other first second =
     elim (cuts first.before second.before first.line second.line first.after second.after (sym first.pieces ∙ second.pieces)) [
       | inl both ↦ second.place_is ∙ ap (λ (l : List (List ℕ)). number + length l) (sym both.0) ∙ sym first.place_is
@@ -86,22 +83,20 @@ one-stray number list place other first second =
 -- ---- what a step line says
 
 -- how many words say it
-count_of : StepLine → ℕ
+abbrev count_of : StepLine → ℕ
 count_of (Upload name version) = 4
 count_of (Removal name) = 3
 count_of NewName = 2
 
 counted : (w : List (List ℕ)) (said : StepLine) → Says w said → length w ≡ count_of said
-unfolding count_of
 counted w (Upload name version) says = ap (λ (l : List (List ℕ)). length l) says.0
 counted w (Removal name) says = ap (λ (l : List (List ℕ)). length l) says.0
 counted w NewName says = ap (λ (l : List (List ℕ)). length l) says
 
-word : (w : List (List ℕ)) (k : ℕ) → List ℕ
+abbrev word : (w : List (List ℕ)) (k : ℕ) → List ℕ
 word w k = get_or w k []
 
 one-said : (w : List (List ℕ)) (said other : StepLine) → Says w said → Says w other → other ≡ said
-unfolding count_of word
 one-said w (Upload name version) (Upload name' version') first second =
     let a : name' ≡ name = ap (λ (l : List (List ℕ)). word l 2) (sym second.0 ∙ first.0) in
     let b : version' ≡ version = ap (λ (l : List (List ℕ)). word l 3) (sym second.0 ∙ first.0) in
@@ -210,13 +205,12 @@ module _ (exact : AreExact) (s : SpaceView) (space : IsSpace s) (law : StepLaw s
   -- ---- what is wrong with an entry
 
   -- the block is brought, and is refused: the error that is told of it
-  IsTold : Entry → PackagesError → FollowError → Type 0
+  abbrev IsTold : Entry → PackagesError → FollowError → Type 0
   IsTold entry (packages_error.Bad fault) error = error ≡ Bad (entry.number + fault.line) BadBlock
   IsTold entry packages_error.TooMany error = error ≡ TooMany
   IsTold entry packages_error.NoMemory error = ⊥
 
   one-told : (entry : Entry) (reason : PackagesError) (error other : FollowError) → IsTold entry reason error → IsTold entry reason other → other ≡ error
-  unfolding IsTold
   one-told entry (packages_error.Bad fault) error other is is' = is' ∙ sym is
   one-told entry packages_error.TooMany error other is is' = is' ∙ sym is
   one-told entry packages_error.NoMemory error other is is' = absurd is
@@ -234,7 +228,6 @@ module _ (exact : AreExact) (s : SpaceView) (space : IsSpace s) (law : StepLaw s
         → Refuses s archive taken reason → Kind archive entry error
 
   kind-of : (archive : List Package) (entry : Entry) (error : FollowError) → IsEntryError s limit archive entry error → Kind archive entry error
-  unfolding IsTold
   kind-of archive entry (Bad line BadStep) has = Silent (ap (λ (n : ℕ). Bad n BadStep) has.0) has.1
   kind-of archive entry (Bad line UnknownName) has = Unknown (ap (λ (n : ℕ). Bad n UnknownName) has.0) has.1 has.2 has.3 has.4
   kind-of archive entry (Bad line Stray) has = Strayed line refl has.0 has.1 has.2
@@ -420,7 +413,6 @@ module _ (exact : AreExact) (s : SpaceView) (space : IsSpace s) (law : StepLaw s
 
     one-stop : (new other : List Package) (entry entry' : Entry) (error also : FollowError) → StopsAt s limit journal old new entry
         → StopsAt s limit journal old other entry' → IsEntryError s limit new entry error → IsEntryError s limit other entry' also → also ≡ error
-    unfolding Cut
     one-stop new other entry entry' error also first second has has' =
         elim (cuts first.before second.before entry entry' first.after second.after (sym first.pieces ∙ second.pieces)) [
           | inl both ↦
