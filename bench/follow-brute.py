@@ -5,7 +5,7 @@ Usage: follow-brute.py PROGRAM [ARCHIVES [SEED]]
 
 The certificate is the program's own of `challenged`, at either mode, which brute.py holds against the enumeration. What the steps of a journal
 make, which of them is refused first and why, and which packages are broken at the end, is said here by the definitions, with an archive that is a
-dictionary of names and challenges by small_archives.py. A row on the way: the archive after some of the uploads is told by a shorter journal.
+dictionary of names, and challenges by small_archives.py.
 """
 import collections
 import itertools
@@ -13,8 +13,6 @@ import sys
 
 import small_archives as small
 from small_archives import sc
-
-KINDS = ("strong", "outdated", "challenged")
 
 
 class Differs(Exception):
@@ -52,7 +50,7 @@ def upload(draw, packages, clusters):
     """The name and the version of a step line, and its block."""
     members = [packages[k - 1] for k in draw.choice(clusters)]
     top = sc.top_of([p["text"] for p in members])
-    version = draw.choice([b"2", b"2.5", b"3", b"4", top, sc.after(top, 1), b"1:0"])
+    version = draw.choice([b"2", b"3", b"4", top] + 2 * [sc.after(top, 1), sc.after(top, 9), b"1:0", b"1:1", b"2:0"])
     faulty = draw.choice(["name", "version", "provides", "entry", "architecture"]) if draw.often(0.12) else None
     block = b"\n".join(stanza(draw, p, version, faulty if k == 0 else None) for k, p in enumerate(p for p in members if draw.often(0.8)))
     return draw.choice(members)["name"] if draw.often(0.95) else b"nobody", version, block
