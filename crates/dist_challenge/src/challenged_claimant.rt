@@ -221,6 +221,10 @@ impl ChallengedClaimant {
             Some(today) => today,
             None => return Ok(None),
         };
+        // It would leave too many pairs.
+        if self.used_by(window, today).len() > REACH {
+            return Ok(None);
+        }
         let (mut named, left) = self.plan(window, package, present, today)?;
         if !lasts(window, left.len(), today) {
             return Ok(None);

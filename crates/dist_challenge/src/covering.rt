@@ -15,6 +15,18 @@ use dist_space::Meaning;
 use dist_sweep::Window;
 use std::alloc::AllocError;
 
+/// How many known installations in a row are tried that strike no pair of a claim. A try costs as much as there are pairs, and
+/// what a known installation does not strike is asked for.
+const VAIN: u32 = 8;
+
+/// How many installations in a row struck no pair, one more that did or did not.
+fn vain_after(struck: bool, vain: u32) -> u32
+    ensures struck { IsTrue struck → result ≡ 0 }
+    ensures within { result ≤ vain + 1 }
+{
+    if struck { 0 } else { vain.saturating_add(1) }
+}
+
 /// Whether a claim may still name an installation, once so many more came.
 pub(crate) fn lasts(window: &Window, more: usize, number: u32) -> bool
     ensures { IsTrue result → Lasts window.now more number }
@@ -25,7 +37,7 @@ pub(crate) fn lasts(window: &Window, more: usize, number: u32) -> bool
 impl ChallengedClaimant {
     /// The clusters that an installation uses.
     #[tactic(auto, using(crate::proofs::UsedSteps::none_at))]
-    fn used_by(&self, window: &Window, number: u32) -> &[u32]
+    pub(crate) fn used_by(&self, window: &Window, number: u32) -> &[u32]
         requires { IsKept window.now number }
         ensures value { result.now ≡ used_by self.now window.now number }
         ensures rising { AreRising result.now }
@@ -151,14 +163,15 @@ impl ChallengedClaimant {
         None
     }
 
-    /// Lets an installation strike the pairs that it covers, where a claim may then name it as long as pairs are left.
+    /// Lets an installation strike the pairs that it covers, where a claim may then name it as long as pairs are left; answers
+    /// whether it did.
     fn strike_by(
         &self,
         window: &Window,
         number: u32,
         named: &mut Vec<u32>,
         ats: &mut Vec<u32>,
-    ) -> Result<(), AllocError>
+    ) -> Result<bool, AllocError>
         requires kept { IsKept window.now number }
         requires variables { window.now.variables ≡ length self.now.space.meanings }
         requires inside { All (λ at. (1 ≤ at) × (at ≤ length self.now.space.meanings)) ats.old.items }
@@ -172,11 +185,13 @@ impl ChallengedClaimant {
         if left.len() < ats.len() && lasts(window, left.len(), number) {
             named.push(number)?;
             *ats = left;
+            return Ok(true);
         }
-        Ok(())
+        Ok(false)
     }
 
-    /// Lets the installations with a variable strike pairs, the latest first, until none is left. Those that did are told.
+    /// Lets the installations with a variable strike pairs, the latest first, until none is left or many in a row struck none.
+    /// Those that did are told.
     fn strike(
         &self,
         window: &Window,
@@ -192,13 +207,15 @@ impl ChallengedClaimant {
             → IsPlan self.now window.now present own today 0 named.items ats.new.items) }
     {
         let mut named = Vec::new(self.alloc);
+        let mut vain = 0;
         for back in 0..window.len() {
             let number = window.count() - back;
-            if ats.is_empty() {
+            if ats.is_empty() || vain >= VAIN {
                 break;
             }
             if number != today && window.has(number, present) {
-                self.strike_by(window, number, &mut named, ats)?;
+                let struck = self.strike_by(window, number, &mut named, ats)?;
+                vain = vain_after(struck, vain);
             }
         }
         Ok(named)

@@ -4,7 +4,7 @@ use Rattle.dist_challenge.specs.ChallengedPrivate.{ChallengedView}
 use Rattle.dist_challenge.specs.CoverPrivate.{IsPlan}
 use Rattle.dist_challenge.proofs.CoverSteps.{plan-passed}
 use Rattle.dist_challenge.proofs.challenged_claimant.ChallengedClaimant.strike.Goals as goal
-use Rattle.dist_challenge.proofs.challenged_claimant.ChallengedClaimant.strike.Goals.{then-number-today+then-has+in_ok-strike_by, else-number-today}
+use Rattle.dist_challenge.proofs.challenged_claimant.ChallengedClaimant.strike.Goals.{then-number-today+then-has+in_ok-struck, else-number-today}
 
 -- one number less
 less-one : (c : ChallengedView) (w : WindowView) (present own today count back : ℕ) (named ats : List ℕ)
@@ -19,12 +19,12 @@ loop-back-preserved c =
     let kept : WindowView = c.args.window.now in
     let number : c.count.result - c.loop-back.back ≡ kept.count - c.loop-back.back = ap (λ (n : ℕ). n - c.loop-back.back) c.count.ensures in
     elim c.if-number-today.branch [
-      | then-number-today+then-has+in_ok-strike_by w ↦ record {
-        inside = rw w.ats-is w.in_ok-strike_by.ensures.inside;
+      | then-number-today+then-has+in_ok-struck w ↦ record {
+        inside = rw w.ats-is w.in_ok-struck.ensures.inside;
         plan = λ own are. rw (w.ats-is, w.named-is)
             (less-one self kept c.args.present own c.args.today kept.count c.loop-back.back w.strike_by.new.named.items w.strike_by.new.ats.items
             (subst (λ (n : ℕ). IsPlan self kept c.args.present own c.args.today (n - 1) w.strike_by.new.named.items w.strike_by.new.ats.items) number
-            (w.in_ok-strike_by.ensures.plan c.args.present own c.args.today (sym w.has.ensures ∙ w.if-has.true) w.if-number-today.true
+            (w.in_ok-struck.ensures.plan c.args.present own c.args.today (sym w.has.ensures ∙ w.if-has.true) w.if-number-today.true
             (subst (λ (n : ℕ). IsPlan self kept c.args.present own c.args.today n c.loop-back.named.items c.loop-back.ats.items) (sym number)
             (c.loop-back.invariant.plan own are)))));
       }
