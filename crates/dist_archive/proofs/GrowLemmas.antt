@@ -6,13 +6,14 @@ use Rattle.dist_repo.specs.declared.package.Package.{Package}
 use Rattle.dist_space.specs.Space.{IsFrame, SpaceView}
 use Rattle.dist_archive.specs.Reach.{AreMade, AreTaken}
 use Rattle.dist_archive.specs.Refusals.{IsNameFault, Refuses, RefusesName, RefusesRemoval, RefusesUpload}
+use Rattle.dist_archive.specs.Same.{AreSame}
 use Rattle.dist_archive.specs.Steps.{IsAboveAll, IsHeld, Lead, Makes}
 use Rattle.dist_archive.specs.declared.step.Step.{Step}
 use Rattle.dist_archive.specs.declared.step.Step.TheVariants.{Upload, Removal, NewName}
 use Rattle.dist_archive.specs.declared.step.StepError.{StepError}
 use Rattle.dist_archive.specs.declared.step.StepError.TheVariants.{OtherArchitecture, NotAbove, NotMember, NotAtVersion, WrongProvides, NotHeld}
 use Rattle.dist_archive.specs.declared.step.StepError.TheVariants.{NotOne, NameTaken, NameVirtual, HasProvides, NoMemory}
-use Rattle.dist_archive.proofs.LeadLemmas.{AreSame, exactly-itself, held-same, lead-append, lead-from, lead-one, makes-same, same-back}
+use Rattle.dist_archive.proofs.LeadLemmas.{exactly-itself, held-same, lead-append, lead-from, lead-one, makes-same, same-back}
 use Rattle.dist_archive.proofs.RefusalLemmas.{removal-one}
 use Rattle.dist_archive.proofs.TakenLemmas.{made-same}
 

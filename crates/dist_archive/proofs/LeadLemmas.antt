@@ -6,6 +6,7 @@ use Rattle.dist_repo.specs.DecidedLaws.{IsDecided}
 use Rattle.dist_repo.specs.Order.{IsFlat}
 use Rattle.dist_repo.specs.declared.package.Package.{Package}
 use Rattle.dist_space.specs.Space.{SpaceView}
+use Rattle.dist_archive.specs.Same.{AreSame}
 use Rattle.dist_archive.specs.Steps.{HasExactly, IsClusterName, IsHeld, Lead, Makes}
 use Rattle.dist_archive.specs.declared.step.Step.{Step}
 use Rattle.dist_archive.specs.declared.step.Step.TheVariants.{Upload, Removal, NewName}
@@ -84,9 +85,6 @@ those P each (p ∷ all) = elim (each p) [
 ]
 
 -- ---- archives with the same packages
-
-abbrev pub AreSame : List Package → List Package → Type 0
-AreSame old other = (n : Package) → Contains old n ↔ Contains other n
 
 pub exactly-same : (archive : List Package) (P Q : Package → Type 0) → ((n : Package) → P n ↔ Q n) → HasExactly archive P → HasExactly archive Q
 exactly-same archive P Q same has = record {

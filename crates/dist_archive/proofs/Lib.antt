@@ -22,3 +22,4 @@ pub mod TakenLemmas
 pub mod ReachLemmas
 pub mod MovedLemmas
 pub mod GrowLemmas
+pub mod OneLemmas

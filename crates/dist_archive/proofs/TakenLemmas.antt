@@ -12,6 +12,7 @@ use Rattle.dist_future.specs.Future.{IsFuture, IsTaken}
 use Rattle.dist_archive.specs.BringingPrivate.{IsFreeBlock}
 use Rattle.dist_archive.specs.Reach.{AreParts, AreStepsFor, AreTaken, IsPart, IsPlan}
 use Rattle.dist_archive.specs.Refusals.{IsOfOtherArchitecture, Refuses}
+use Rattle.dist_archive.specs.Same.{AreSame}
 use Rattle.dist_archive.specs.Steps.{HasExactly, IsAboveAll, IsClusterName, IsHeld, IsOfCluster, IsUploaded, Lead, Makes}
 use Rattle.dist_archive.specs.UploadsPrivate.{IsChecked}
 use Rattle.dist_archive.specs.declared.step.Step.{Step}
@@ -20,7 +21,7 @@ use Rattle.dist_archive.specs.declared.step.StepError.{StepError}
 use Rattle.dist_archive.proofs.ClusterLemmas.{in-cluster}
 use Rattle.dist_archive.proofs.FitLemmas.{above-same, name-same}
 use Rattle.dist_archive.proofs.FutureLemmas.{clustered-back, in-same}
-use Rattle.dist_archive.proofs.LeadLemmas.{AreSame, lead-from}
+use Rattle.dist_archive.proofs.LeadLemmas.{lead-from}
 use Rattle.dist_archive.proofs.RefusalLemmas.{checked-none, free-none, removal-one}
 use Rattle.dist_archive.proofs.StageLemmas.{plan-leads}
 
@@ -37,18 +38,18 @@ not-other r block none other =
 
 module _ (s : SpaceView) (frame : IsFrame s) where
   -- two packages of one cluster
-  of-both : (cluster : ℕ) (c d : Package) → IsOfCluster s cluster c → IsOfCluster s cluster d → AreClustered (member_of c) (member_of d)
+  pub of-both : (cluster : ℕ) (c d : Package) → IsOfCluster s cluster c → IsOfCluster s cluster d → AreClustered (member_of c) (member_of d)
   of-both cluster c d first second =
       ((in-cluster s frame cluster c first second.member d second.is).0 second.in_cluster).clustered
 
-  above-all_same : (c d : Package) (archive : List Package) (version : List ℕ) → AreClustered (member_of c) (member_of d)
+  pub above-all_same : (c d : Package) (archive : List Package) (version : List ℕ) → AreClustered (member_of c) (member_of d)
       → IsAboveAll s.repository archive c version → IsAboveAll s.repository archive d version
   above-all_same c d archive version same above = record {
     top = above-same s.repository c d version same above.top;
     held = λ n there named. above.held n there (name-same s.repository d c n.name (clustered-back (member_of c) (member_of d) same) named);
   }
 
-  uploaded-same : (c d : Package) (version : List ℕ) (n : Package) → AreClustered (member_of c) (member_of d) → IsUploaded s.repository c version n
+  pub uploaded-same : (c d : Package) (version : List ℕ) (n : Package) → AreClustered (member_of c) (member_of d) → IsUploaded s.repository c version n
       → IsUploaded s.repository d version n
   uploaded-same c d version n same made =
       ((made.0.0, in-same s.repository d c made.0.0 (clustered-back (member_of c) (member_of d) same) made.0.1, made.0.2), made.1)

@@ -1,4 +1,5 @@
 pub mod Steps
+pub mod Same
 pub mod Refusals
 pub mod Archive
 pub mod AnswersPrivate

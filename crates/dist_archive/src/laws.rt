@@ -1,14 +1,15 @@
 //! Laws of steps, apart from the work. The functions do nothing.
-ghost use Rattle.std.specs.Prelude.{◌↔◌, ◌<◌, Bool, ℕ, List, [], ◌∷◌, ◌++◌, length};
+ghost use Rattle.std.specs.Prelude.{◌≡◌, ◌↔◌, ◌<◌, Bool, ℕ, List, [], ◌∷◌, ◌++◌, length};
 ghost use Rattle.dist_repo.specs.declared.package.Package.{Package};
 ghost use Rattle.dist_repo.specs.Order.{IsFlat};
 ghost use Rattle.dist_repo.specs.PackageList.{IsPackageAnd};
 ghost use Rattle.dist_space.specs.Space.{IsSpace, SpaceView};
-ghost use Rattle.dist_future.specs.Future.{IsFuture};
+ghost use Rattle.dist_future.specs.Future.{IsFuture, IsInClusterOf};
 ghost use Rattle.dist_future.specs.Outdated.{Challenges, HoldsCluster, IsInstallableIn};
 ghost use Rattle.dist_archive.specs.Reach.{AreMade, AreTaken, Fits, IsPlan};
 ghost use Rattle.dist_archive.specs.Refusals.{Refuses};
-ghost use Rattle.dist_archive.specs.Steps.{IsReached, Lead, Makes};
+ghost use Rattle.dist_archive.specs.Same.{AreSame};
+ghost use Rattle.dist_archive.specs.Steps.{IsOfCluster, IsReached, Lead, Makes};
 ghost use Rattle.dist_archive.specs.declared.step.Step.{Step};
 ghost use Rattle.dist_archive.specs.declared.step.StepError.{StepError};
 
@@ -38,6 +39,23 @@ pub fn lists_of_steps_grow()
     ensures none { (s : SpaceView) (archive : List Package) → IsFlat archive → AreMade s [] archive archive }
     ensures more { (s : SpaceView) (steps : List Step) (step : Step) (old middle new : List Package) → IsSpace s
         → AreMade s steps old middle → ((error : StepError) → ¬ Refuses s middle step error) → Makes s step middle new → AreMade s (steps ++ step ∷ []) old new }
+{}
+
+/// A step is refused for one reason at most. Archives with the same packages refuse the same steps for the same reasons, and have
+/// the same packages after a step.
+pub fn steps_have_one_answer()
+    ensures one { (s : SpaceView) (archive : List Package) (step : Step) (error other : StepError) → IsSpace s → Refuses s archive step error
+        → Refuses s archive step other → other ≡ error }
+    ensures same { (s : SpaceView) (old other : List Package) (step : Step) (error : StepError) → AreSame old other → Refuses s old step error
+        → Refuses s other step error }
+    ensures made { (s : SpaceView) (old other new newer : List Package) (step : Step) → IsSpace s → AreSame old other → Makes s step old new
+        → Makes s step other newer → AreSame new newer }
+{}
+
+/// Two packages of the cluster of a number are in one cluster of the repository.
+pub fn clusters_are_whole()
+    ensures { (s : SpaceView) (cluster : ℕ) (c q : Package) → IsSpace s → IsOfCluster s cluster c → IsOfCluster s cluster q
+        → IsInClusterOf s.repository c q }
 {}
 
 /// A version that challenges a package breaks it after every further list of steps at whose end the archive holds the cluster at

@@ -23,7 +23,8 @@ mod uploads;
 
 pub use archive::{Archive, start};
 pub use laws::{
-    challenges_hold_after_steps, futures_are_reached, lists_of_steps_grow, steps_reach_futures,
+    challenges_hold_after_steps, clusters_are_whole, futures_are_reached, lists_of_steps_grow,
+    steps_have_one_answer, steps_reach_futures,
 };
 pub use plan::{Plan, ReachError};
 pub use reaching::reach;

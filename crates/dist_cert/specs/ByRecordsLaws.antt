@@ -170,7 +170,7 @@ sound_lines clear matter limits h before rest sound all = record {
   later = λ earlier step others e cause f.
       let one = sound_at limits matter h [] before earlier step others e all in
       one.faultless cause (line_to_record (clear_records clear) (HasRecordFault matter h) limits earlier step
-          (lines_text others ++ rest) one.form
+      (lines_text others ++ rest) one.form
       (no_end_in earlier one.not_ended) one.short cause
       (subst (λ bytes. HasLineFault matter limits h earlier bytes cause) (first_line_of step others rest) f));
 }
@@ -201,9 +201,9 @@ refused_by_record clear matter limits h before step more cause sound all form sh
     cause = map_first (HasRecordFault matter h before step)
         (HasLineFault matter limits h before (record_text step ++ line_feed ∷ more))
         (record_to_line (clear_records clear) (HasRecordFault matter h) limits before step more form
-            (of_records matter h before step))
+        (of_records matter h before step))
         (line_to_record (clear_records clear) (HasRecordFault matter h) limits before step more form
-            (no_end_in before not_ended) short) in_order
+        (no_end_in before not_ended) short) in_order
         cause first;
   },
 )

@@ -114,7 +114,7 @@ pub record AreRight (rules : Rules) (limits : Limits) (text : List ℕ) (h : rul
   pub later : (earlier : List CertRecord) (step : CertRecord) (others : List CertRecord)
       → before ≡ earlier ++ step ∷ others
       → (cause : CertCause) → ¬ HasFaultBehind (rules.HasFault h) limits earlier
-          (lines_text (step ∷ others) ++ rest) cause
+      (lines_text (step ∷ others) ++ rest) cause
 
 -- the first line is the faulty one
 pub record IsRefusedFirst (rules : Rules) (limits : Limits) (text : List ℕ) (fault : CertFault) : Type 0 where

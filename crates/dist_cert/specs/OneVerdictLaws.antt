@@ -180,7 +180,7 @@ one_later rules clear limits text fault gault h other ones twos rest more x y =
     = subst (λ bytes. IsFirstOf in_order (HasFaultBehind (rules.HasFault other) limits twos bytes) fault.cause) same.1
     (subst (λ steps. IsFirstOf in_order (HasFaultBehind (rules.HasFault other) limits steps rest) fault.cause) same.0
     (subst (λ k. IsFirstOf in_order (HasFaultBehind (rules.HasFault k) limits ones rest) fault.cause) read.0 x.cause))
-        in
+    in
     same_fault fault gault (x.line ∙ ap (λ steps. length steps + 2) same.0 ∙ sym y.line)
     (one_first (HasFaultBehind (rules.HasFault other) limits twos more) in_order fault.cause gault.cause there y.cause))
     (λ apart. ⊎_elim

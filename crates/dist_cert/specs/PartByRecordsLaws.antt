@@ -72,7 +72,7 @@ too-long-alone clear matter limits h before step more line causes.BadRecord f =
     line.form)) f.3)
 too-long-alone clear matter limits h before step more line cause f =
     absurd (line.faultless cause (same_step (clear_records clear)
-        (HasRecordFault matter h) before step more cause line.form f))
+    (HasRecordFault matter h) before step more cause line.form f))
 
 first-alone : FormsAreClear → (matter : Matter) (limits : Limits) (h : Header) (more : List ℕ) → IsHeaderOf matter h
     → (cause : CertCause) → HasFirstFault matter limits (header_text h ++ line_feed ∷ more) cause

@@ -125,7 +125,7 @@ grown rules limits text h before rest line more step faultless none begins form 
   reads = record {
     text_is = faultless.reads.text_is ∙ append_assoc (rules.heading_text h) (line_feed ∷ lines_text before) rest
         ∙ ap (λ bytes. rules.heading_text h ++ line_feed ∷ bytes)
-            (sym (push_text before step rest line more begins form))
+        (sym (push_text before step rest line more begins form))
         ∙ sym (append_assoc (rules.heading_text h) (line_feed ∷ lines_text (before ++ step ∷ [])) more);
     header = faultless.reads.header;
     records = All-push (λ s. HasForm (record_text s) s) before step faultless.reads.records
@@ -138,7 +138,7 @@ grown rules limits text h before rest line more step faultless none begins form 
     later : (earlier : List CertRecord) (s : CertRecord) (others : List CertRecord)
         → before ++ step ∷ [] ≡ earlier ++ s ∷ others
         → (cause : CertCause) → ¬ HasFaultBehind (rules.HasFault h) limits earlier
-            (lines_text (s ∷ others) ++ more) cause
+        (lines_text (s ∷ others) ++ more) cause
     later earlier s others e cause fault = ⊎_elim
         (λ x.
         let bytes : lines_text (s ∷ others) ++ more ≡ rest
@@ -146,12 +146,12 @@ grown rules limits text h before rest line more step faultless none begins form 
         ∙ push_text [] step rest line more begins form in
         none cause (subst (λ bs. HasFaultBehind (rules.HasFault h) limits before bs cause) bytes
         (subst (λ steps. HasFaultBehind (rules.HasFault h) limits steps (lines_text (s ∷ others) ++ more) cause) x.0
-            fault)))
+        fault)))
         (λ x.
         let bytes : lines_text (s ∷ others) ++ more ≡ lines_text (s ∷ x.0) ++ rest
         = ap (λ rs. lines_text (s ∷ rs) ++ more) x.2 ∙ push_text (s ∷ x.0) step rest line more begins form in
         faultless.later earlier s x.0 x.1 cause
-            (subst (λ bs. HasFaultBehind (rules.HasFault h) limits earlier bs cause) bytes
+        (subst (λ bs. HasFaultBehind (rules.HasFault h) limits earlier bs cause) bytes
         fault))
         (split_push before earlier others s step e)
 
@@ -186,7 +186,7 @@ judge_rest rules limits text h (suc fuel) before rest enough faultless never =
   where
     at_the_end : (left : List ℕ) → IsOneLine left → AreRight rules limits text h before left
         → ((cause : CertCause) → ¬ HasFaultBehind (rules.HasFault h) limits before left cause)
-            → IsJudged rules limits text
+        → IsJudged rules limits text
     at_the_end [] one all none = inl (h, before, record { faultless = all; ends = none })
     at_the_end (x ∷ left) one all none = absurd (none causes.Truncated (one, inl (some_byte x left)))
 

@@ -7,11 +7,7 @@ use crate::loose_words::Words;
 use std::alloc::{AllocError, Global};
 
 /// The text of a first line, without a line feed.
-pub fn first_line_text(
-    alloc: Global,
-    front: &[u8],
-    numbers: &[u32],
-) -> Result<Vec<u8>, AllocError>
+pub fn first_line_text(alloc: Global, front: &[u8], numbers: &[u32]) -> Result<Vec<u8>, AllocError>
     ensures { IfOk result (λ text. text.items ≡ first_line front.now numbers.now) }
 {
     let mut text = Vec::new(alloc);

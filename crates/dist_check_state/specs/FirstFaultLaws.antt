@@ -46,8 +46,11 @@ first_of Has causes.BadRecord has none = inr (
 )
 first_of Has causes.OutOfRange has none = inr (
   none causes.LineTooLong (lit< tt),
-  inr (none causes.Truncated (lit< tt), inr
-      (none causes.BadHeader (lit< tt), inr (none causes.BadRecord (lit< tt), inl (has, refl)))),
+  inr (
+    none causes.Truncated (lit< tt),
+    inr
+        (none causes.BadHeader (lit< tt), inr (none causes.BadRecord (lit< tt), inl (has, refl))),
+  ),
 )
 first_of Has causes.OutOfOrder has none = inr (
   none causes.LineTooLong (lit< tt),
@@ -65,8 +68,11 @@ first_of Has causes.UnknownLine has none = inr (
     none causes.Truncated (lit< tt),
     inr (
       none causes.BadHeader (lit< tt),
-      inr (none causes.BadRecord (lit< tt), inr
-          (none causes.OutOfRange (lit< tt), inr (none causes.OutOfOrder (lit< tt), inl (has, refl)))),
+      inr (
+        none causes.BadRecord (lit< tt),
+        inr
+            (none causes.OutOfRange (lit< tt), inr (none causes.OutOfOrder (lit< tt), inl (has, refl))),
+      ),
     ),
   ),
 )
@@ -96,8 +102,11 @@ first_of Has causes.NotAFuture has none = inr (
         none causes.BadRecord (lit< tt),
         inr (
           none causes.OutOfRange (lit< tt),
-          inr (none causes.OutOfOrder (lit< tt), inr
-              (none causes.UnknownLine (lit< tt), inr (none causes.BadLine (lit< tt), inl (has, refl)))),
+          inr (
+            none causes.OutOfOrder (lit< tt),
+            inr
+                (none causes.UnknownLine (lit< tt), inr (none causes.BadLine (lit< tt), inl (has, refl))),
+          ),
         ),
       ),
     ),
@@ -139,8 +148,11 @@ first_of Has causes.LimitNotReached has none = inr (
             none causes.OutOfOrder (lit< tt),
             inr (
               none causes.UnknownLine (lit< tt),
-              inr (none causes.BadLine (lit< tt), inr
-                  (none causes.NotAFuture (lit< tt), inr (none causes.NotAnInstallation (lit< tt), inl (has, refl)))),
+              inr (
+                none causes.BadLine (lit< tt),
+                inr
+                    (none causes.NotAFuture (lit< tt), inr (none causes.NotAnInstallation (lit< tt), inl (has, refl))),
+              ),
             ),
           ),
         ),
@@ -166,8 +178,11 @@ first_of Has causes.NotNew has none = inr (
                 none causes.BadLine (lit< tt),
                 inr (
                   none causes.NotAFuture (lit< tt),
-                  inr (none causes.NotAnInstallation (lit< tt), inr
-                      (none causes.LimitNotReached (lit< tt), inl (has, refl))),
+                  inr (
+                    none causes.NotAnInstallation (lit< tt),
+                    inr
+                        (none causes.LimitNotReached (lit< tt), inl (has, refl)),
+                  ),
                 ),
               ),
             ),
@@ -369,7 +384,7 @@ HasFirst matter h before step cause = IsFirstOf in_order (HasRecordFault matter 
 
 pub faultless_from : (matter : Matter) (h : Header) (before : List CertRecord) (step : CertRecord)
     → ((cause : CertCause) → may_have step cause ≡ true → ¬ HasRecordFault matter h before step cause)
-        → IsFaultless matter h before step
+    → IsFaultless matter h before step
 faultless_from matter h before step none cause fault = elim (cases_Bool (may_have step cause)) [
   | inl may ↦ none cause may fault
   | inr never ↦ none_else matter h before step cause never fault
@@ -378,7 +393,7 @@ faultless_from matter h before step none cause fault = elim (cases_Bool (may_hav
 pub first_from : (matter : Matter) (h : Header) (before : List CertRecord) (step : CertRecord) (cause : CertCause)
     → HasRecordFault matter h before step cause
     → ((earlier : CertCause) → may_have step earlier ≡ true → rank earlier < rank cause
-        → ¬ HasRecordFault matter h before step earlier)
+    → ¬ HasRecordFault matter h before step earlier)
     → HasFirst matter h before step cause
 first_from matter h before step cause has none = first_of (HasRecordFault matter h before step) cause has
     (λ earlier below fault. elim (cases_Bool (may_have step earlier)) [

@@ -119,7 +119,7 @@ same-length matter h before log at = ap (λ (cs : List (List Literal)). length c
 pub derived-verdict : (matter : Matter) (h : Header) (before : List CertRecord) (log : ClauseLog)
     → IsLogOf matter before log → (literals : List Word) (hints : List ℕ)
     (found : Option CertCause) → TellsDerived log literals hints found
-        → IsVerdict matter h before (lines.Derived literals hints) found
+    → IsVerdict matter h before (lines.Derived literals hints) found
 derived-verdict matter h before log at literals hints None told =
     faultless_from matter h before (lines.Derived literals hints) none
   where
@@ -143,7 +143,7 @@ derived-verdict matter h before log at literals hints (Some causes.OutOfRange) t
 derived-verdict matter h before log at literals hints (Some causes.UnknownLine) told =
     first_from matter h before (lines.Derived literals hints) causes.UnknownLine
     (hints-some (length log.clauses) (length (numbered matter before)) hints
-        (same-length matter h before log at) told.1) none
+    (same-length matter h before log at) told.1) none
   where
     none : (cause : CertCause) → may_have (lines.Derived literals hints) cause ≡ true → rank cause < 6
         → ¬ HasRecordFault matter h before (lines.Derived literals hints) cause
@@ -172,7 +172,7 @@ derived-verdict matter h before log at literals hints (Some cause) told = absurd
 pub refuted-verdict : (matter : Matter) (h : Header) (before : List CertRecord) (log : ClauseLog)
     → IsLogOf matter before log → (question : Option QuestionView)
     → IsQuestionOf matter.inputs before question → (hints : List ℕ) (found : Option CertCause)
-        → TellsRefuted log question hints found
+    → TellsRefuted log question hints found
     → IsVerdict matter h before (lines.Refuted hints) found
 refuted-verdict matter h before log at None q hints found told =
     subst (IsVerdict matter h before (lines.Refuted hints)) (sym told)
@@ -200,7 +200,7 @@ refuted-verdict matter h before log at (Some question) q hints None told =
 refuted-verdict matter h before log at (Some question) q hints (Some causes.UnknownLine) told =
     first_from matter h before (lines.Refuted hints) causes.UnknownLine
     (hints-some (length log.clauses) (length (numbered matter before)) hints (same-length matter h before log at) told)
-        none
+    none
   where
     none : (cause : CertCause) → may_have (lines.Refuted hints) cause ≡ true → rank cause < 6
         → ¬ HasRecordFault matter h before (lines.Refuted hints) cause
@@ -233,20 +233,20 @@ inputs-are : (matter : Matter) (h : Header) (before : List CertRecord) (log : Cl
     → inputs_of log ≡ matter.inputs
 inputs-are matter h before log at =
     ap (λ (n : ℕ). take n log.clauses) at.inputs_are
-        ∙ ap (λ (cs : List (List Literal)). take (length matter.inputs) cs) at.clauses
+    ∙ ap (λ (cs : List (List Literal)). take (length matter.inputs) cs) at.clauses
     ∙ take_at matter.inputs (derived before) (length matter.inputs) refl
 
 -- a model is a healthy installation
 healthy-from : (matter : Matter) (h : Header) (before : List CertRecord) (log : ClauseLog) → IsLogOf matter before log
     → JudgesMembers matter → (variables : List ℕ) → IsModel (is_among variables) (inputs_of log)
-        → matter.IsHealthy variables
+    → matter.IsHealthy variables
 healthy-from matter h before log at mean variables model =
     ((mean variables).1 (subst (IsModel (is_among variables)) (inputs-are matter h before log at) model)).1
 
 -- and of a future
 future-from : (matter : Matter) (h : Header) (before : List CertRecord) (log : ClauseLog) → IsLogOf matter before log
     → JudgesMembers matter → (variables : List ℕ) → IsModel (is_among variables) (inputs_of log)
-        → matter.IsFuture variables
+    → matter.IsFuture variables
 future-from matter h before log at mean variables model =
     ((mean variables).1 (subst (IsModel (is_among variables)) (inputs-are matter h before log at) model)).0
 
@@ -264,7 +264,7 @@ future-is : (matter : Matter) (h : Header) (before : List CertRecord) (log : Cla
     → matter.IsFuture variables ↔ StandsForFuture future (is_among variables) (inputs_of log)
 future-is matter h before log at future are variables =
     subst (λ clauses. matter.IsFuture variables ↔ StandsForFuture future (is_among variables) clauses)
-        (sym (inputs-are matter h before log at))
+    (sym (inputs-are matter h before log at))
     (are variables)
 
 -- for kind strong each set stands for a future
@@ -284,7 +284,7 @@ no-future-fault matter kinds.Challenged variables future fault = fault future
 pub installation-verdict : (matter : Matter) (h : Header) (before : List CertRecord) (log : ClauseLog)
     → IsLogOf matter before log → JudgesMembers matter
     → (which : FutureClauses) → AreFuturesBy matter which
-        → (h.kind ≡ kinds.Strong → (members : List ℕ) → matter.IsFuture members)
+    → (h.kind ≡ kinds.Strong → (members : List ℕ) → matter.IsFuture members)
     → (variables : List ℕ) (found : Option CertCause) → TellsInstallation log which variables found
     → IsVerdict matter h before (lines.Installation variables) found
 installation-verdict matter h before log at mean which are today variables None told =
@@ -310,7 +310,7 @@ installation-verdict matter h before log at mean which are today variables (Some
 installation-verdict matter h before log at mean which are today variables (Some causes.NotAFuture) told =
     first_from matter h before (lines.Installation variables) causes.NotAFuture
     (future-fault matter h.kind variables (λ strong. today strong variables)
-        (λ future. told.1 ((future-is matter h before log at which are variables).0 future))) none
+    (λ future. told.1 ((future-is matter h before log at which are variables).0 future))) none
   where
     none : (cause : CertCause) → may_have (lines.Installation variables) cause ≡ true → rank cause < 8
         → ¬ HasRecordFault matter h before (lines.Installation variables) cause
@@ -346,19 +346,19 @@ each-new inputs assumptions clauses (line ∷ more) new =
     let n = length clauses in
     let number : n + 1 - 1 ≡ n = omega arith in
     let first : IsNew (take (n + 1 - 1) (clauses ++ line ∷ more)) inputs assumptions
-        (clause_at (clauses ++ line ∷ more) (n + 1)) =
+    (clause_at (clauses ++ line ∷ more) (n + 1)) =
     new (n + 1) (omega arith) (omega (arith, length-append clauses (line ∷ more))) in
     let place : clause_at (clauses ++ line ∷ more) (n + 1) ≡ line = ap
-        (λ (k : ℕ). get_or (clauses ++ line ∷ more) k []) number
+    (λ (k : ℕ). get_or (clauses ++ line ∷ more) k []) number
     ∙ get_or_at clauses line more [] n refl in
     let front : take (n + 1 - 1) (clauses ++ line ∷ more) ≡ clauses = ap
-        (λ (k : ℕ). take k (clauses ++ line ∷ more)) number
+    (λ (k : ℕ). take k (clauses ++ line ∷ more)) number
     ∙ take_at clauses (line ∷ more) n refl in (
       subst (λ cs. IsNew cs inputs assumptions line) front
           (subst (λ c. IsNew (take (n + 1 - 1) (clauses ++ line ∷ more)) inputs assumptions c) place first),
       each-new inputs assumptions (clauses ++ line ∷ []) more
           (subst (λ cs. AreNewFrom cs inputs assumptions (length (clauses ++ line ∷ [])))
-              (sym (append_assoc clauses (line ∷ []) more))
+          (sym (append_assoc clauses (line ∷ []) more))
           (λ k past upto. new k (omega (arith, past, length-append clauses (line ∷ []))) upto)),
     )
 
@@ -377,13 +377,13 @@ new-from-each inputs assumptions clauses (line ∷ more) each k past upto = elim
       let front : clauses ≡ take (n + 1 - 1) (clauses ++ line ∷ more) =
       sym (ap (λ (i : ℕ). take i (clauses ++ line ∷ more)) number ∙ take_at clauses (line ∷ more) n refl) in
       subst (λ i. IsNew (take (i - 1) (clauses ++ line ∷ more)) inputs assumptions
-          (clause_at (clauses ++ line ∷ more) i)) is
+      (clause_at (clauses ++ line ∷ more) i)) is
       (subst (λ c. IsNew (take (n + 1 - 1) (clauses ++ line ∷ more)) inputs assumptions c) place
-          (subst (λ cs. IsNew cs inputs assumptions line) front each.0))
+      (subst (λ cs. IsNew cs inputs assumptions line) front each.0))
   | inr later ↦
       let rest = new-from-each inputs assumptions (clauses ++ line ∷ []) more each.1 in
       let whole = subst (λ cs. AreNewFrom cs inputs assumptions (length (clauses ++ line ∷ [])))
-          (append_assoc clauses (line ∷ []) more) rest in
+      (append_assoc clauses (line ∷ []) more) rest in
       whole k (omega (arith, later, length-append clauses (line ∷ []))) upto
 ]
 
@@ -397,13 +397,13 @@ pub since-question : (inputs : List (List Literal)) (before earlier : List CertR
 since-question inputs before earlier question since x =
     ap (λ (ls : List CertRecord). inputs ++ derived ls) x.ends
     ∙ ap (λ (cs : List (List Literal)). inputs ++ cs)
-        (flat_map-append derived_in earlier (lines.Question question ∷ since))
+    (flat_map-append derived_in earlier (lines.Question question ∷ since))
     ∙ sym (append_assoc inputs (derived earlier) (derived since))
 
 pub undecided-verdict : (matter : Matter) (h : Header) (before : List CertRecord) (log : ClauseLog)
     → IsLogOf matter before log → (question : Option QuestionView)
     → IsQuestionOf matter.inputs before question → (found : Option CertCause)
-        → TellsUndecided log h.limit question found
+    → TellsUndecided log h.limit question found
     → IsVerdict matter h before lines.Undecided found
 undecided-verdict matter h before log at None q found told =
     subst (IsVerdict matter h before lines.Undecided) (sym told)
@@ -433,7 +433,7 @@ undecided-verdict matter h before log at (Some question) q found told = by found
     late enough fault =
         let one = one-open before fault.0 q.0 fault.1 question.assumptions fault.2 q.1 fault.3 q.2 in
         let same : length (derived fault.2) ≡ length (derived q.1) = ap
-            (λ (ls : List CertRecord). length (derived ls)) one.2 in
+        (λ (ls : List CertRecord). length (derived ls)) one.2 in
         omega (arith, enough, fault.4, same, size)
 
     early : length log.clauses < question.last + h.limit
@@ -445,9 +445,9 @@ undecided-verdict matter h before log at (Some question) q found told = by found
     new were =
         each-new (length matter.inputs) (clause_of question.assumptions) (matter.inputs ++ derived q.0) (derived q.1)
         (subst (λ n. AreNewFrom ((matter.inputs ++ derived q.0) ++ derived q.1) (length matter.inputs)
-            (clause_of question.assumptions) n) q.3
+        (clause_of question.assumptions) n) q.3
         (subst (λ n. AreNewFrom ((matter.inputs ++ derived q.0) ++ derived q.1) n
-            (clause_of question.assumptions) question.last) at.inputs_are
+        (clause_of question.assumptions) question.last) at.inputs_are
         (subst (λ cs. AreNewFrom cs log.inputs (clause_of question.assumptions) question.last) split were)))
 
     were-new : EachIsNew (matter.inputs ++ derived q.0) (length matter.inputs) (clause_of question.assumptions)
@@ -456,11 +456,11 @@ undecided-verdict matter h before log at (Some question) q found told = by found
     were-new each =
         subst (λ cs. AreNewFrom cs log.inputs (clause_of question.assumptions) question.last) (sym split)
         (subst (λ n. AreNewFrom ((matter.inputs ++ derived q.0) ++ derived q.1) n
-            (clause_of question.assumptions) question.last) (sym at.inputs_are)
+        (clause_of question.assumptions) question.last) (sym at.inputs_are)
         (subst (λ n. AreNewFrom ((matter.inputs ++ derived q.0) ++ derived q.1) (length matter.inputs)
-            (clause_of question.assumptions) n) (sym q.3)
+        (clause_of question.assumptions) n) (sym q.3)
         (new-from-each (length matter.inputs) (clause_of question.assumptions) (matter.inputs ++ derived q.0)
-            (derived q.1) each)))
+        (derived q.1) each)))
 
     no-old : AreNewFrom log.clauses log.inputs (clause_of question.assumptions) question.last
         → ¬ HasRecordFault matter h before lines.Undecided causes.NotNew
@@ -468,10 +468,10 @@ undecided-verdict matter h before log at (Some question) q found told = by found
         let one = one-open before fault.0 q.0 fault.1 question.assumptions fault.2 q.1 fault.3 q.2 in
         let New : List CertRecord → List Word → List CertRecord
         → Type 0 = λ e asked si. EachIsNew (matter.inputs ++ derived e) (length matter.inputs) (clause_of asked)
-            (derived si) in
+        (derived si) in
         fault.4 (subst (λ e. New e fault.1 fault.2) (sym one.0)
         (subst (λ asked. New q.0 asked fault.2) (sym one.1)
-            (subst (λ si. New q.0 question.assumptions si) (sym one.2) (new were))))
+        (subst (λ si. New q.0 question.assumptions si) (sym one.2) (new were))))
 
     by : (f : Option CertCause) → TellsUndecided log h.limit (Some question) f
         → IsVerdict matter h before lines.Undecided f

@@ -6,3 +6,4 @@ pub mod FollowLemmas
 pub mod BreakingLemmas
 pub mod ReadLemmas
 pub mod TakeLemmas
+pub mod OneEndLemmas

@@ -3,6 +3,7 @@ pub mod Blocks
 pub mod Steps
 pub mod Faults
 pub mod Follow
+pub mod OneEnd
 pub mod BrokenOrder
 pub mod Broken
 pub mod CutPrivate

@@ -10,6 +10,7 @@ mod broken_list;
 mod cutting;
 mod fault;
 mod following;
+mod laws;
 mod reading;
 mod step_line;
 
@@ -17,3 +18,4 @@ pub use breaking::broken;
 pub use broken_list::{Broken, BrokenList};
 pub use fault::{FollowError, JournalFault};
 pub use following::follow;
+pub use laws::journals_have_one_end;

@@ -11,3 +11,5 @@ mod faults;
 mod followed;
 #[cfg(test)]
 mod journals;
+#[cfg(test)]
+mod planned;

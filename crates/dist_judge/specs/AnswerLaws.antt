@@ -99,7 +99,7 @@ done_not_faulty : (kind : FileKind) (basis : kind.Basis) (limits : Limits) (h : 
     → IsDone kind basis limits h before rest told made → IsFaulty kind basis limits h before rest fault → ⊥
 done_not_faulty kind basis limits h before rest told made fault done faulty =
     done.ends fault.cause (subst (λ bytes. HasFaultBehind (kind.HasFault basis h) limits before bytes fault.cause)
-        done.nothing
+    done.nothing
     (has_first (HasFaultBehind (kind.HasFault basis h) limits before rest) in_order fault.cause faulty.first))
 
 passing_not_faulty : (kind : FileKind) (basis : kind.Basis) (limits : Limits) (h : kind.Heading)
@@ -108,7 +108,7 @@ passing_not_faulty : (kind : FileKind) (basis : kind.Basis) (limits : Limits) (h
     → IsPassing kind basis limits h before rest Passes → IsFaulty kind basis limits h before rest fault → ⊥
 passing_not_faulty kind basis limits h before rest Passes fault passing faulty =
     passing.none fault.cause (has_first (HasFaultBehind (kind.HasFault basis h) limits before rest) in_order fault.cause
-        faulty.first)
+    faulty.first)
 
 done_keeps : (limits : Limits) (n : ℕ) (rest : List ℕ) → n ≤ limits.certificate → rest ≡ []
     → ¬ PassesWhole limits n rest
@@ -139,7 +139,7 @@ same_reason kind basis limits h before rest (Err (Bad fault)) (Ok (g, made)) kep
 same_reason kind basis limits h before rest (Err (Bad fault)) (Err (Bad other)) kept x y =
     ap (λ f. Err (Bad f)) (same_fault fault other (x.line ∙ sym y.line)
     (one_first (HasFaultBehind (kind.HasFault basis h) limits before rest) in_order fault.cause other.cause x.first
-        y.first))
+    y.first))
 same_reason kind basis limits h before rest (Err (Bad fault)) (Err (Work (TooLarge Lines))) kept x y =
     absurd (passing_not_faulty kind basis limits h before rest _ fault y x)
 same_reason kind basis limits h before rest (Err (Bad fault)) (Err (Work (TooLarge LineLiterals))) kept x y =
@@ -202,10 +202,10 @@ same_step : RecordsAreClear → (few later : List CertRecord) (step : CertRecord
     → BeginsWith rest line more → HasForm line (Derived literals hints) → step ≡ Derived literals hints
 same_step clear few later step rest tail line more literals hints is form begins derives =
     let lines = one_line (record_text step) line (lines_text later ++ tail) more
-        (clear.record_line step form) begins.one_line
+    (clear.record_line step form) begins.one_line
     (sym (first_line_of step later tail) ∙ sym is ∙ begins.ended) in
     clear.one_record (record_text step) step (Derived literals hints) form
-        (subst (λ bytes. HasForm bytes (Derived literals hints)) (sym lines.0) derives)
+    (subst (λ bytes. HasForm bytes (Derived literals hints)) (sym lines.0) derives)
 
 -- the lines of the longer reading have that clause too
 derived_more : (few later many : List CertRecord) (step : CertRecord) (literals : List Word) (hints : List ℕ)
@@ -214,7 +214,7 @@ derived_more : (few later many : List CertRecord) (step : CertRecord) (literals 
     → derived many ≡ derived few ++ clause_of literals ∷ derived later
 derived_more few later many step literals hints is derives =
     ap derived (is ∙ ap (λ (s : CertRecord). few ++ s ∷ later) derives)
-        ∙ flat_map-append derived_in few (Derived literals hints ∷ later)
+    ∙ flat_map-append derived_in few (Derived literals hints ∷ later)
 
 passed_lines : (limits : Limits) (few later many : List (List Literal)) (clause : List Literal)
     → many ≡ few ++ clause ∷ later → length many ≤ limits.lines
@@ -238,7 +238,7 @@ pub passed_bytes : (limits : Limits) (n : ℕ) (line more rest : List ℕ) → r
     → ¬ PassesWhole limits n rest
 passed_bytes limits n line more rest is kept passes =
     within (limits.certificate - n) line more (omega (arith, kept))
-        (subst (λ bytes. IsOneLine (take (limits.certificate - n) bytes)) is passes.in_line)
+    (subst (λ bytes. IsOneLine (take (limits.certificate - n) bytes)) is passes.in_line)
 
 longer_bytes : (first : List ℕ) (few later many : List CertRecord) (step : CertRecord) → many ≡ few ++ step ∷ later
     → length (file_text first few) + length (record_text step) + 1 ≤ length (file_text first many)
@@ -260,7 +260,7 @@ pub not_before : (kind : FileKind) → IsClear kind
     → (basis : kind.Basis) (limits : Limits) (text : List ℕ) (h other : kind.Heading)
     (few many : List CertRecord) (rest more : List ℕ) (one : Answer kind) → h ≡ other
     → IsReached kind basis limits text other many more → IsShorter few rest many more
-        → Reason kind basis limits h few rest one → ⊥
+    → Reason kind basis limits h few rest one → ⊥
 not_before kind clear basis limits text h other few many rest more (Ok (g, made)) same point shorter x =
     nothing_more few many more (subst (λ bytes. IsShorter few bytes many more) x.nothing shorter)
 not_before kind clear basis limits text h other few many rest more (Err (Bad fault)) same point shorter x =
@@ -269,23 +269,23 @@ not_before kind clear basis limits text h other few many rest more (Err (Bad fau
 not_before kind clear basis limits text h other few many rest more (Err (Work (TooLarge Lines))) same point shorter x =
     let form = step_form few shorter.1 many shorter.0 shorter.2 point.faultless.reads.records in
     let is = same_step clear.records few shorter.1 shorter.0 rest more x.line x.more x.literals x.hints shorter.3 form
-        x.begins x.form in
+    x.begins x.form in
     passed_lines limits (derived few) (derived shorter.1) (derived many) (clause_of x.literals)
     (derived_more few shorter.1 many shorter.0 x.literals x.hints shorter.2 is) point.numbers.derived_lines x.passes
 not_before kind clear basis limits text h other few many rest more
     (Err (Work (TooLarge LineLiterals))) same point shorter x =
     let form = step_form few shorter.1 many shorter.0 shorter.2 point.faultless.reads.records in
     let is = same_step clear.records few shorter.1 shorter.0 rest more x.line x.more x.literals x.hints shorter.3 form
-        x.begins x.form in
+    x.begins x.form in
     passed_literals limits (derived few) (derived shorter.1) (derived many) (clause_of x.literals)
     (derived_more few shorter.1 many shorter.0 x.literals x.hints shorter.2 is) point.numbers.line_literals x.passes.1
 not_before kind clear basis limits text h other few many rest more
     (Err (Work (TooLarge Certificate))) same point shorter x =
     let long = longer_bytes (kind.heading_text other) few shorter.1 many shorter.0 shorter.2 in
     let n : length (file_text (kind.heading_text h) few) ≡ length (file_text (kind.heading_text other) few) = ap
-        (λ (k : kind.Heading). length (file_text (kind.heading_text k) few)) same in
+    (λ (k : kind.Heading). length (file_text (kind.heading_text k) few)) same in
     passed_bytes limits (length (file_text (kind.heading_text h) few)) (record_text shorter.0)
-        (lines_text shorter.1 ++ more) rest
+    (lines_text shorter.1 ++ more) rest
     (shorter.3 ∙ first_line_of shorter.0 shorter.1 more) (omega (arith, long, n, point.numbers.bytes)) x
 not_before kind clear basis limits text h other few many rest more one same point shorter x = x
 
@@ -295,11 +295,11 @@ pub one_later : (kind : FileKind) → IsClear kind
     → (basis : kind.Basis) (limits : Limits) (text : List ℕ) (h other : kind.Heading)
     (ones twos : List CertRecord) (rest more : List ℕ) (one two : Answer kind)
     → IsReached kind basis limits text h ones rest → IsReached kind basis limits text other twos more
-        → Reason kind basis limits h ones rest one
+    → Reason kind basis limits h ones rest one
     → Reason kind basis limits other twos more two → one ≡ two
 one_later kind clear basis limits text h other ones twos rest more one two x y a b =
     let read = readings (rules_of kind basis)
-        (clear_rules kind clear basis) text h other ones twos rest more x.faultless.reads y.faultless.reads in
+    (clear_rules kind clear basis) text h other ones twos rest more x.faultless.reads y.faultless.reads in
     ⊎_elim
     (λ same. same_reason kind basis limits other twos more one two y.numbers.bytes
     (subst (λ bytes. Reason kind basis limits other twos bytes one) same.1
@@ -308,7 +308,7 @@ one_later kind clear basis limits text h other ones twos rest more one two x y a
     (λ apart. ⊎_elim
     (λ shorter. absurd (not_before kind clear basis limits text h other ones twos rest more one read.0 y shorter a))
     (λ shorter. absurd (not_before kind clear basis limits text other h twos ones more rest two
-        (sym read.0) x shorter b))
+    (sym read.0) x shorter b))
     apart)
     read.1
 
@@ -345,7 +345,7 @@ large_not_faulty : (kind : FileKind) (limits : Limits) (text : List ℕ) (what :
     → HasLargeInputs kind limits text what → IsFirstFaulty kind limits text fault → ⊥
 large_not_faulty kind limits text what fault known large faulty =
     by fault.cause (has_first (HasHeadingFault (rules_of kind faulty.basis) limits text) in_order fault.cause
-        faulty.first) faulty.within
+    faulty.first) faulty.within
   where
     by : (cause : CertCause) → HasHeadingFault (rules_of kind faulty.basis) limits text cause
         → (cause ≡ causes.BadHeader → HasInputsWithin kind faulty.basis limits text) → ⊥
@@ -363,18 +363,18 @@ both_large : (kind : FileKind) (limits : Limits) (text : List ℕ) (what other :
 both_large kind limits text what other known first second =
     let same : second.h ≡ first.h =
     one_heading kind known.clear text first.h second.h first.line first.more second.line second.more first.begins
-        first.form second.begins second.form in
+    first.form second.begins second.form in
     known.one first.h what other first.passes
     (subst (λ h. kind.PassesFirst h limits other) same second.passes)
 
 large_not_later : (kind : FileKind) (basis : kind.Basis) (limits : Limits) (text : List ℕ) (what : What)
     (h : kind.Heading) (before : List CertRecord)
     (rest : List ℕ) → AreKnown kind limits → HasLargeInputs kind limits text what
-        → IsReached kind basis limits text h before rest → ⊥
+    → IsReached kind basis limits text h before rest → ⊥
 large_not_later kind basis limits text what h before rest known large behind =
     let begins = heading_begins kind known.clear text h before rest behind.faultless.reads in
     let same : large.h ≡ h = one_heading kind known.clear text h large.h (kind.heading_text h)
-        (lines_text before ++ rest) large.line large.more begins
+    (lines_text before ++ rest) large.line large.more begins
     behind.faultless.reads.header large.begins large.form in
     known.kept h basis what behind.is_basis behind.numbers.inputs
     (subst (λ g. kind.PassesFirst g limits what) same large.passes)
@@ -447,11 +447,11 @@ one_first_stop kind limits text known one other x y = absurd y
 pub first_alone : (kind : FileKind) (basis : kind.Basis) (limits : Limits) (text : List ℕ) (h : kind.Heading)
     (before : List CertRecord) (rest : List ℕ)
     → AreKnown kind limits → (one : Answer kind) → FirstReason kind limits text one
-        → IsReached kind basis limits text h before rest → ⊥
+    → IsReached kind basis limits text h before rest → ⊥
 first_alone kind basis limits text h before rest known (Err (Bad fault)) x behind =
     let faultless = behind.faultless in
     let same : x.basis ≡ basis = same_judged kind known.same limits text basis x.basis
-        (reads_heading kind known.clear basis limits text h before rest faultless)
+    (reads_heading kind known.clear basis limits text h before rest faultless)
     (is_judged kind known.clear basis limits text h before rest faultless behind.is_basis) x.judged in
     faultless.first fault.cause (subst (λ b. HasHeadingFault (rules_of kind b) limits text fault.cause) same
     (has_first (HasHeadingFault (rules_of kind x.basis) limits text) in_order fault.cause x.first))
@@ -580,9 +580,9 @@ both_behind : (kind : FileKind) (limits : Limits) (text : List ℕ) (one other :
     → StopsBehind kind limits text other → one ≡ other
 both_behind kind limits text one other known a b =
     let judged = is_judged kind known.clear a.basis limits text a.h a.before a.rest a.reached.faultless
-        a.reached.is_basis in
+    a.reached.is_basis in
     let also = is_judged kind known.clear b.basis limits text b.h b.before b.rest b.reached.faultless b.reached.is_basis
-        in
+    in
     let header = reads_heading kind known.clear a.basis limits text a.h a.before a.rest a.reached.faultless in
     let same : b.basis ≡ a.basis = same_judged kind known.same limits text a.basis b.basis header judged also in
     one_later kind known.clear a.basis limits text a.h b.h a.before b.before a.rest b.rest one other a.reached

@@ -121,8 +121,14 @@ heading_refused kind any limits text causes.BadHeader f = record {
   basis = any;
   judged = λ h line more begins form short. absurd (never h line more begins form);
   bytes = f.0.whole;
-  first = inr (f.0.line, inr (begins_whole text f.1 f.2 f.3, inl
-      ((f.1, f.2, f.3, λ h form. absurd (f.4 h form)), refl)));
+  first = inr (
+    f.0.line,
+    inr (
+      begins_whole text f.1 f.2 f.3,
+      inl
+          ((f.1, f.2, f.3, λ h form. absurd (f.4 h form)), refl),
+    ),
+  );
   within = λ is h line more begins form. absurd (never h line more begins form);
 }
   where

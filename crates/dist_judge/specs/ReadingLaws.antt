@@ -147,7 +147,7 @@ module _ (kind : FileKind) (clear : IsClear kind) (limits : Limits) (told : Opti
           → StopsWith kind limits text e
       at text rest more faultless (Bad fault) answer because =
           inr (record_refused kind clear basis limits text h before rest reader
-              (reached text rest faultless) x.limits_are
+          (reached text rest faultless) x.limits_are
           x.given x.ended fault (omega (arith, because.0, x.line_count)) answer.0)
       at text rest more faultless (Work ReadFault) answer because = tt
       at text rest more faultless (Work NoMemory) answer because = tt
@@ -182,7 +182,7 @@ module _ (kind : FileKind) (clear : IsClear kind) (limits : Limits) (told : Opti
   pub line_stops : (after : Option (List ℕ)) (step : CertRecord) (line : ℕ) (error : ReadCertError)
       → WhereTold left after (λ rest more. RecordAnswers reader rest more (Ok (Some step)))
       → line ≡ reader.lines + 1 → LineStops kind limits basis h before step line error
-          → OfText told (λ text. StopsWith kind limits text error)
+      → OfText told (λ text. StopsWith kind limits text error)
   line_stops after step line error answers number stops = by told x.text
     where
       at : (text rest more : List ℕ) → AreRight (rules_of kind basis) limits text h before rest
@@ -225,8 +225,12 @@ module _ (kind : FileKind) (clear : IsClear kind) (limits : Limits) (told : Opti
     derived_lines = lines_kept;
     line_literals = literals_kept;
     limits_are = ap (λ (v : ReaderView). v.limits) gives ∙ x.limits_are;
-    line_count = omega (arith, ap (λ (v : ReaderView). v.lines) gives, x.line_count,
-        length-append before (step ∷ []));
+    line_count = omega (
+      arith,
+      ap (λ (v : ReaderView). v.lines) gives,
+      x.line_count,
+      length-append before (step ∷ []),
+    );
     given = ap (λ (v : ReaderView). v.given) gives ∙ ap (λ (n : ℕ). n + (length (record_text step) + 1)) x.given
         ∙ sym (text_push (kind.heading_text h) before step);
     ended = ap (λ (v : ReaderView). v.ended) gives ∙ sym (ended_push before step (sym x.ended ∙ because.1));
