@@ -1,6 +1,6 @@
 -- What is held of a name, by its version: an archive has one package of a name. No public clause cites these laws;
 -- proofs do, those of the crate above too.
-use Rattle.std.proofs.Common.{◌≡◌, ℕ, ◌+◌, Bool, true, false, List, [], ◌∷◌, Option, None, Some, arith, cond, sym, ap}
+use Rattle.std.proofs.Common.{◌≡◌, ℕ, suc, Bool, true, false, List, [], ◌∷◌, Option, None, Some, arith, cond, sym, ap}
 use Rattle.std.proofs.Common.{refl, subst, ◌∙◌, inl, inr}
 use Rattle.std.specs.Prelude.{Contains}
 use Rattle.std.specs.List.{find}
@@ -25,12 +25,14 @@ found-by name p rest b is = ap (λ (x : Bool). cond x (Some p) (find (has_name n
 pub found-none : (name : List ℕ) (archive : List Package) → ((p : Package) → ¬ IsHeldAs archive name p)
     → find (has_name name) archive ≡ None
 found-none name [] none = refl
-found-none name (p ∷ rest) none = by (bytes_eq p.name name) refl
+found-none name (p ∷ rest) none =
+    by (found-none name rest (λ q held. none q ((suc held.0.0, omega (arith, held.0.1), held.0.2), held.1)))
+    (bytes_eq p.name name) refl
   where
-    by : (b : Bool) → bytes_eq p.name name ≡ b → find (has_name name) (p ∷ rest) ≡ None
-    by true is = absurd (none p ((0, omega arith, refl), (bytes_eq-Decides p.name name).0 is))
-    by false is = found-by name p rest false is
-        ∙ found-none name rest (λ q held. none q ((held.0.0 + 1, omega (arith, held.0.1), held.0.2), held.1))
+    by : find (has_name name) rest ≡ None → (b : Bool) → bytes_eq p.name name ≡ b
+        → find (has_name name) (p ∷ rest) ≡ None
+    by more true is = absurd (none p ((0, omega arith, refl), (bytes_eq-Decides p.name name).0 is))
+    by more false is = found-by name p rest false is ∙ more
 
 pub found-held : (name : List ℕ) (archive : List Package) (q : Package) → IsFlat archive → IsHeldAs archive name q
     → find (has_name name) archive ≡ Some q
@@ -39,14 +41,15 @@ found-held name (p ∷ rest) q flat held = elim (contains-cons p q rest held.0) 
   | inl first ↦
       found-by name p rest true ((bytes_eq-Decides p.name name).1 (ap (λ (x : Package). x.name) first ∙ held.1))
       ∙ ap (λ (x : Package). Some x) first
-  | inr later ↦ by (bytes_eq p.name name) refl later
+  | inr later ↦ by later (found-held name rest q (pairs-tail (λ (x y : Package). ¬ (x.name ≡ y.name)) p rest flat)
+      (later, held.1)) (bytes_eq p.name name) refl
 ]
   where
-    by : (b : Bool) → bytes_eq p.name name ≡ b → Contains rest q → find (has_name name) (p ∷ rest) ≡ Some q
-    by true is later = absurd (pairs-head (λ (x y : Package). ¬ (x.name ≡ y.name)) p rest flat q later
+    by : Contains rest q → find (has_name name) rest ≡ Some q → (b : Bool) → bytes_eq p.name name ≡ b
+        → find (has_name name) (p ∷ rest) ≡ Some q
+    by later more true is = absurd (pairs-head (λ (x y : Package). ¬ (x.name ≡ y.name)) p rest flat q later
         ((bytes_eq-Decides p.name name).0 is ∙ sym held.1))
-    by false is later = found-by name p rest false is
-        ∙ found-held name rest q (pairs-tail (λ (x y : Package). ¬ (x.name ≡ y.name)) p rest flat) (later, held.1)
+    by later more false is = found-by name p rest false is ∙ more
 
 -- the version of the one package of a name
 pub version-held : (name : List ℕ) (archive : List Package) (q : Package) → IsFlat archive → IsHeldAs archive name q

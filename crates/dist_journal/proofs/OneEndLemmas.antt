@@ -1,6 +1,6 @@
 -- A journal has one end.
 use Rattle.std.proofs.Common.{◌≡◌, ◌≢◌, ◌⊎◌, ℕ, ◌+◌, List, [], ◌∷◌, ◌++◌, length, get_or, refl, sym, ap, subst, ◌∙◌, inl, inr, arith, true, false}
-use Rattle.std.specs.Prelude.{codes}
+use Rattle.std.specs.Prelude.{All}
 use Rattle.std.proofs.lemmas.Bool.{false≢true}
 use Rattle.std.proofs.lemmas.List.Elements.{All-head, All-tail}
 use Rattle.dist_control.specs.Bytes.{is_blank}
@@ -229,10 +229,10 @@ module _ (exact : AreExact) (s : SpaceView) (space : IsSpace s) (law : StepLaw s
 
   kind-of : (archive : List Package) (entry : Entry) (error : FollowError) → IsEntryError s limit archive entry error → Kind archive entry error
   kind-of archive entry (Bad line BadStep) has = Silent (ap (λ (n : ℕ). Bad n BadStep) has.0) has.1
-  kind-of archive entry (Bad line UnknownName) has = Unknown (ap (λ (n : ℕ). Bad n UnknownName) has.0) has.1 has.2 has.3 has.4
+  kind-of archive entry (Bad line UnknownName) has = Unknown (ap (λ (n : ℕ). Bad n UnknownName) has.0) has.1.0 has.1.1 has.1.2 has.1.3
   kind-of archive entry (Bad line Stray) has = Strayed line refl has.0 has.1 has.2
-  kind-of archive entry (Bad line BadBlock) has = Blocked (packages_error.Bad has.1) (ap (λ (n : ℕ). Bad n BadBlock) has.3) has.0 has.2
-  kind-of archive entry (Bad line (Refused reason)) has = Denied reason (ap (λ (n : ℕ). Bad n (Refused reason)) has.0) has.1 has.2 has.3
+  kind-of archive entry (Bad line BadBlock) has = Blocked (packages_error.Bad has.1.0) (ap (λ (n : ℕ). Bad n BadBlock) has.1.2) has.0 has.1.1
+  kind-of archive entry (Bad line (Refused reason)) has = Denied reason (ap (λ (n : ℕ). Bad n (Refused reason)) has.0) has.1.0 has.1.1 has.1.2
   kind-of archive entry TooMany has = Blocked packages_error.TooMany refl has.0 has.1
   kind-of archive entry NoMemory has = absurd has
 
@@ -430,18 +430,18 @@ module _ (exact : AreExact) (s : SpaceView) (space : IsSpace s) (law : StepLaw s
 
     one-error : (new other : List Package) (error also : FollowError) → IsStopped s limit journal old new error
         → IsStopped s limit journal old other also → also ≡ error
-    one-error new other error also (inl (is, line, told, stray)) (inl (is', line', told', stray')) =
+    one-error new other error also (inl (is, (line, told, stray))) (inl (is', (line', told', stray'))) =
         told' ∙ ap (λ (n : ℕ). Bad n Stray) (one-stray 1 (front (lines journal)) line line' stray stray') ∙ sym told
-    one-error new other error also (inl (is, line, told, stray)) (inr (entry, stops, has)) =
+    one-error new other error also (inl (is, (line, told, stray))) (inr (entry, stops, has)) =
         absurd (not-stray 1 (front (lines journal)) line stops.head stray)
-    one-error new other error also (inr (entry, stops, has)) (inl (is, line, told, stray)) =
+    one-error new other error also (inr (entry, stops, has)) (inl (is, (line, told, stray))) =
         absurd (not-stray 1 (front (lines journal)) line stops.head stray)
     one-error new other error also (inr (entry, stops, has)) (inr (entry', stops', has')) =
         one-stop new other entry entry' error also stops stops' has has'
 
     never-both : (new other : List Package) (count : ℕ) (error : FollowError) → IsFollowed s limit journal old new count
         → ¬ IsStopped s limit journal old other error
-    never-both new other count error followed (inl (is, line, told, stray)) = not-stray 1 (front (lines journal)) line followed.head stray
+    never-both new other count error followed (inl (is, (line, told, stray))) = not-stray 1 (front (lines journal)) line followed.head stray
     never-both new other count error followed (inr (entry, stops, has)) =
         past stops.before entry stops.after other new error stops.follows
         (subst (λ (l : List Entry). Follows s limit l old new) stops.pieces followed.follows) has

@@ -1,5 +1,3 @@
-use Rattle.std.proofs.Common.{inl}
-use Rattle.dist_app.proofs.Due.{err_more}
 use Rattle.dist_app.proofs.StepsStages.{space-given-up, space-goes, space-size}
 use Rattle.dist_app.proofs.spaces.space_of_file.Goals as goal
 
@@ -20,6 +18,3 @@ pub returns-in-Ok-clause-within_size : goal.returns-in-Ok-clause-within_size
 returns-in-Ok-clause-within_size c =
     space-size c.args.repository c.in-Ok.newest c.in-Ok.ensures.newest c.args.essential c.space_within.result c.in-Ok.ensures.within_size
     c.space_within.ensures.space
-
-pub returns-in-Err-clause-given_up : goal.returns-in-Err-clause-given_up
-returns-in-Err-clause-given_up c = λ files. inl c.in-Err.ensures.given_up
