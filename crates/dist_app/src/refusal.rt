@@ -4,7 +4,6 @@ ghost use Rattle.dist_app.specs.Refusal.{status_of, refusal_of};
 
 use crate::status::Status;
 use dist_cert::CertFault;
-use dist_journal::JournalFault;
 use dist_outside::{What, WorkError};
 use dist_package::Fault;
 
@@ -19,7 +18,6 @@ pub(crate) enum Refusal {
     NoMemory,
     TooLarge(What),
     BadList(u64),
-    BadJournal(u64, JournalFault),
 }
 
 impl Refusal {
@@ -36,7 +34,6 @@ impl Refusal {
             Refusal::NoMemory => Status::NoMemory,
             Refusal::TooLarge(_) => Status::TooLarge,
             Refusal::BadList(_) => Status::BadList,
-            Refusal::BadJournal(_, _) => Status::BadJournal,
         }
     }
 }

@@ -16,8 +16,7 @@ pub enum Status {
     TooLarge,
     NotHealthy,
     BadList,
-    BadJournal,
-    NotAFuture,
+    NotAFuture = 12,
 }
 
 impl Status {

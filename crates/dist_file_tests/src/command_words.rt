@@ -60,10 +60,6 @@ fn files_are_read(rt: HostRuntime) -> Result<(), Fail> {
     assert!(rt;
         matches!(command_of(alloc, &words), Ok(Command::Steps(files)) if files.packages == "f" && files.later == "g")
     );
-    let words = words_of(alloc, &["follow", "f", "g", "h"])?;
-    assert!(rt;
-        matches!(command_of(alloc, &words), Ok(Command::Follow(files)) if files.packages == "f" && files.cert == "g" && files.journal == "h")
-    );
     let words = words_of(alloc, &["try", "--seed", "0", "--size", "2"])?;
     assert!(rt;
         matches!(command_of(alloc, &words), Ok(Command::Try(sizes)) if sizes.size == 2 && sizes.seed == 0)
@@ -74,7 +70,7 @@ fn files_are_read(rt: HostRuntime) -> Result<(), Fail> {
 #[test]
 fn other_words_are_refused(rt: HostRuntime) -> Result<(), Fail> {
     let alloc = rt.alloc();
-    let lists: [&[&str]; 25] = [
+    let lists: [&[&str]; 22] = [
         &[],
         &["strong", "f"],
         &["health", "f", "g", "--limit", "3"],
@@ -96,9 +92,6 @@ fn other_words_are_refused(rt: HostRuntime) -> Result<(), Fail> {
         &["outdated", "f", "g", "--limit", "0"],
         &["steps", "f"],
         &["steps", "f", "g", "--limit", "3"],
-        &["follow", "f", "g"],
-        &["follow", "f", "g", "h", "i"],
-        &["follow", "f", "g", "h", "--essential"],
         &["--help"],
     ];
     for list in lists {

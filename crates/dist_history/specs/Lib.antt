@@ -1,4 +1,2 @@
 pub mod PlanText
-pub mod FollowText
-pub mod FollowTextLaws
 pub mod PlanTextExamples
