@@ -12,4 +12,3 @@ mod followed;
 #[cfg(test)]
 mod journals;
 #[cfg(test)]
-mod planned;
