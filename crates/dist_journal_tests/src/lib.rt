@@ -11,4 +11,3 @@ mod faults;
 mod followed;
 #[cfg(test)]
 mod journals;
-#[cfg(test)]
