@@ -32,10 +32,12 @@ pub(crate) type Row = (
 /// The space of some stanzas.
 pub(crate) fn space_of_stanzas(alloc: Global, stanzas: &str) -> Option<Space> {
     let repo = repository(alloc, stanzas)?;
-    if !repo.is_flat() || !repo.is_within_size() {
-        return None;
+    if repo.is_flat() && repo.is_within_size() {
+        space_of(alloc, repo, false, 1000).ok()
+    } else {
+        drop(repo);
+        None
     }
-    space_of(alloc, repo, false, 1000).ok()
 }
 
 /// The number of the cluster of the package of a name.
@@ -86,10 +88,12 @@ pub(crate) fn is_answered(
     refusal: Option<StepError>,
 ) -> Option<bool> {
     let step = step_of(alloc, archive.space(), told)?;
-    if !can_take(archive, &step) {
-        return None;
+    if can_take(archive, &step) {
+        Some(archive.apply(step).err() == refusal)
+    } else {
+        drop(step);
+        None
     }
-    Some(archive.apply(step).err() == refusal)
 }
 
 /// Whether the archive has exactly these packages.
@@ -105,15 +109,27 @@ fn has_exactly(archive: &Archive, packages: &[(&str, &str)]) -> bool {
     archive.len() as usize == packages.len()
 }
 
-/// Whether a row's steps are answered so, and leave these packages.
-fn is_so(alloc: Global, row: &Row) -> Option<bool> {
-    let mut archive = start(alloc, space_of_stanzas(alloc, row.1)?).ok()?;
-    for (told, refusal) in row.2 {
-        if !is_answered(alloc, &mut archive, told, *refusal)? {
+/// Whether steps are answered so, and leave these packages.
+fn goes(
+    alloc: Global,
+    archive: &mut Archive,
+    steps: &[(Told, Option<StepError>)],
+    packages: &[(&str, &str)],
+) -> Option<bool> {
+    for (told, refusal) in steps {
+        if !is_answered(alloc, archive, told, *refusal)? {
             return Some(false);
         }
     }
-    Some(has_exactly(&archive, row.3))
+    Some(has_exactly(archive, packages))
+}
+
+/// Whether a row's steps are answered so, and leave these packages.
+fn is_so(alloc: Global, row: &Row) -> Option<bool> {
+    let mut archive = start(alloc, space_of_stanzas(alloc, row.1)?).ok()?;
+    let goes = goes(alloc, &mut archive, row.2, row.3);
+    drop(archive);
+    goes
 }
 
 /// Runs rows.

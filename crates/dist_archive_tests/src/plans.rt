@@ -162,13 +162,21 @@ fn is_step(step: &Step, wanted: &Step) -> bool {
     }
 }
 
+/// Whether a step is the one that is told.
+fn is_told(alloc: Global, space: &Space, step: &Step, told: &Told) -> Option<bool> {
+    let wanted = step_of(alloc, space, told)?;
+    let same = is_step(step, &wanted);
+    drop(wanted);
+    Some(same)
+}
+
 /// Whether a plan has these steps.
 fn is_plan(alloc: Global, space: &Space, plan: &Plan, told: &[Told]) -> Option<bool> {
     if plan.len() != told.len() {
         return Some(false);
     }
     for place in 0..told.len() {
-        if place >= plan.len() || !is_step(plan.get(place), &step_of(alloc, space, &told[place])?) {
+        if place >= plan.len() || !is_told(alloc, space, plan.get(place), &told[place])? {
             return Some(false);
         }
     }
@@ -211,6 +219,14 @@ fn is_led(alloc: Global, space: Space, told: &[Told], later: &Repository) -> boo
     led
 }
 
+/// Whether a plan is wanted, and has the wanted steps.
+fn is_wanted(alloc: Global, space: &Space, plan: &Plan, wanted: Result<&[Told], u32>) -> bool {
+    match wanted {
+        Ok(told) => is_plan(alloc, space, plan, told) == Some(true),
+        Err(_) => false,
+    }
+}
+
 /// Whether a later archive has this plan, or this is the first package that does not fit.
 fn is_planned(
     alloc: Global,
@@ -221,32 +237,40 @@ fn is_planned(
     if !later.is_flat() {
         return false;
     }
-    match (reach(alloc, space, later), wanted) {
-        (Ok(plan), Ok(told)) => {
-            let planned = is_plan(alloc, space, &plan, told) == Some(true);
+    match reach(alloc, space, later) {
+        Ok(plan) => {
+            let planned = is_wanted(alloc, space, &plan, wanted);
             drop(plan);
             planned
         }
-        (Err(ReachError::NotAFuture(number)), Err(first)) => number == first,
-        _ => false,
+        Err(ReachError::NotAFuture(number)) => wanted.err() == Some(number),
+        Err(ReachError::NoMemory) => false,
+    }
+}
+
+/// Whether a row is answered so, whose later archive this is.
+fn is_so_at(alloc: Global, row: &Row, later: &Repository) -> bool {
+    let Some(space) = space_of_stanzas(alloc, row.1) else {
+        return false;
+    };
+    let planned = is_planned(alloc, &space, later, row.3);
+    match row.3 {
+        Ok(told) if planned => is_led(alloc, space, told, later),
+        _ => {
+            drop(space);
+            planned
+        }
     }
 }
 
 /// Whether a row is answered so.
 fn is_so(alloc: Global, row: &Row) -> bool {
-    let (Some(space), Some(later)) = (space_of_stanzas(alloc, row.1), repository(alloc, row.2))
-    else {
+    let Some(later) = repository(alloc, row.2) else {
         return false;
     };
-    if !is_planned(alloc, &space, &later, row.3) {
-        return false;
-    }
-    let led = match row.3 {
-        Ok(told) => is_led(alloc, space, told, &later),
-        Err(_) => true,
-    };
+    let so = is_so_at(alloc, row, &later);
     drop(later);
-    led
+    so
 }
 
 /// Runs rows.

@@ -164,26 +164,30 @@ fn texts_are_refused(rt: HostRuntime) {
     hold_texts(&rt, &TEXTS);
 }
 
-/// Whether a front of the certificate of a and b is truncated at the line that it ends in.
-fn is_truncated(alloc: Global, front: &[u8]) -> bool {
+/// Whether a front of a certificate is truncated at the line that it ends in.
+fn is_truncated(alloc: Global, stanzas: &str, front: &[u8]) -> bool {
     let mut line = 1u64;
     for byte in front {
         if *byte == b'\n' {
             line = line.saturating_add(1);
         }
     }
-    fault_of(alloc, TWO, front, &Limits::stated()) == at(line, Truncated)
+    fault_of(alloc, stanzas, front, &Limits::stated()) == at(line, Truncated)
 }
 
-fn hold_fronts(rt: &(impl Abort + AllocGlobal), text: &[u8]) {
+/// Each front of a certificate over some stanzas must be truncated.
+pub(crate) fn hold_fronts(rt: &(impl Abort + AllocGlobal), stanzas: &str, text: &[u8]) {
     for length in 0..text.len() {
-        assert!(rt; is_truncated(rt.alloc(), &text[..length]), "{length} bytes");
+        assert!(rt;
+            is_truncated(rt.alloc(), stanzas, &text[..length]),
+            "{length} bytes"
+        );
     }
 }
 
 #[test]
 fn fronts_are_truncated(rt: HostRuntime) {
-    hold_fronts(&rt, TEN.as_bytes());
+    hold_fronts(&rt, TWO, TEN.as_bytes());
 }
 
 /// How many installations stand in place of the first question, the two claims, and the line and the cause of the refusal,

@@ -43,6 +43,10 @@ pub(crate) const FOUR: &str =
 pub(crate) const MARKED: &str =
     "distfuture-certificate 1 challenged plain 1 4 13 14\nm 1 2 4 5\nq 2 10\nf 5 10 9\nq 2 12\nd 4 -2 0 9 10\nu\nc 1 1 0 3 1 0 4 1\nm 1 3 4\nq 3 10\nf 5 10\nc 2 2 0 3 1 0\nm 1 4\nc 3 3 0 0\nm 1 5\nc 4 4 0 0\ne\n";
 
+/// One derived line leaves it undecided whether a is outdated.
+pub(crate) const DOUBTED: &str =
+    "distfuture-certificate 1 outdated plain 1 4 13 14\nq 2\nd 4 -2 0 9 10\nu\ny 1\nm 1 3 4\na 2 1\na 3 1\nm 1 5\na 4 2\ne\n";
+
 const ACCEPTED: &[Accepted] = &[
     Accepted {
         stanzas: LIBRARY,
@@ -153,7 +157,7 @@ const ACCEPTED: &[Accepted] = &[
     // A package of which it is left undecided whether it is outdated, and a pair that is.
     Accepted {
         stanzas: FOUR,
-        text: "distfuture-certificate 1 outdated plain 1 4 13 14\nq 2\nd 4 -2 0 9 10\nu\ny 1\nm 1 3 4\na 2 1\na 3 1\nm 1 5\na 4 2\ne\n",
+        text: DOUBTED,
         kind: Outdated,
         essential: false,
         said: &[Said::Unknown, Said::Alive, Said::Alive, Said::Alive],

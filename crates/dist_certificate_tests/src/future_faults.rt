@@ -1,11 +1,11 @@
 //! Certificates that are judged by futures and refused, each at the line and for the cause of its first fault.
-use crate::faults::{Edit, Text, hold_edits, hold_texts, installed_again};
+use crate::faults::{Edit, Text, hold_edits, hold_fronts, hold_texts, installed_again};
 use crate::future_certificates::{
-    BROKEN, CROWDED, ESSENTIAL, FOUR, MARKED, MOVING, OLD, SHUT_OUT, STALE,
+    BROKEN, CROWDED, DOUBTED, ESSENTIAL, FOUR, MARKED, MOVING, OLD, SHUT_OUT, STALE,
 };
 use dist_cert::CertCause::{
-    self, BadHeader, BadLine, Incomplete, LimitNotReached, NotAFuture, NotAnInstallation, NotNew,
-    OutOfOrder, OutOfRange, UnknownLine, WrongClaim,
+    self, BadHeader, BadLine, BadRecord, Incomplete, LimitNotReached, NotAFuture,
+    NotAnInstallation, NotNew, OutOfOrder, OutOfRange, UnknownLine, WrongClaim,
 };
 use dist_outside::Limits;
 use dist_samples::LIBRARY;
@@ -37,8 +37,19 @@ const STALE_EDITS: &[Edit] = &[
         1,
         BadHeader,
     ),
-    // A variable above the last.
+    // Lines of a wrong form.
+    (2, 2, "q 2 2\n", 2, BadRecord),
+    (6, 6, "m 3 1\n", 6, BadRecord),
+    (4, 4, "o 0\n", 4, BadRecord),
+    (7, 7, "a 2\n", 7, BadRecord),
+    (9, 9, "e\n", 9, BadRecord),
+    // Variables above the last.
     (2, 2, "q 8\n", 2, OutOfRange),
+    (6, 6, "m 8\n", 6, OutOfRange),
+    (3, 3, "d 8 0 5\n", 3, OutOfRange),
+    // Answers without a question.
+    (2, 2, "f 5\n", 2, OutOfOrder),
+    (2, 2, "u\n", 2, OutOfOrder),
     // Of an outdated package the refutation is missing, is wrong, or is that of another question.
     (3, 3, "", 3, WrongClaim),
     (3, 3, "f 4\n", 3, BadLine),
@@ -55,10 +66,24 @@ const STALE_EDITS: &[Edit] = &[
     (4, 4, "x 1\n", 4, WrongClaim),
     (7, 7, "c 2 1 0 0\n", 7, WrongClaim),
     (4, 4, "o 2\n", 4, OutOfOrder),
+    (8, 8, "o 3\ne\n", 8, OutOfOrder),
     (5, 7, "", 5, Incomplete),
     // Nothing is undecided without work.
     (3, 3, "u\n", 3, LimitNotReached),
     (4, 4, "y 1\n", 4, WrongClaim),
+];
+
+/// Of the certificate with a package of which it is left undecided whether it is outdated.
+const DOUBTED_EDITS: &[Edit] = &[
+    (3, 3, "", 3, LimitNotReached),
+    (3, 3, "d 4 -2 0 9\n", 3, BadLine),
+    // Lines that are not new: propagation finds them, with another first literal too, and one speaks of a package that the
+    // question does not reach.
+    (3, 3, "d -6 -2 0 1\n", 4, NotNew),
+    (3, 3, "d -2 4 0 9 10\n", 4, NotNew),
+    (3, 3, "d 4 -2 -13 0 9 10\n", 4, NotNew),
+    // One line too many that is not new.
+    (3, 3, "d -6 -2 0 1\nd 4 -2 0 9 10\n", 5, NotNew),
 ];
 
 /// Of the certificate of challenges of the library and p.
@@ -77,6 +102,25 @@ const BROKEN_EDITS: &[Edit] = &[
         1,
         BadHeader,
     ),
+    // Lines of a wrong form.
+    (2, 2, "q 1 1\n", 2, BadRecord),
+    (3, 3, "m 2 1\n", 3, BadRecord),
+    (4, 4, "c 1 0 0\n", 4, BadRecord),
+    (13, 13, "c 2 2 3 0 1 2 1 0\n", 13, BadRecord),
+    (15, 15, "e\n", 15, BadRecord),
+    // Variables above the last, and a hint above the last number.
+    (5, 5, "q 12\n", 5, OutOfRange),
+    (6, 6, "m 1 12\n", 6, OutOfRange),
+    (10, 10, "d 12 0 1\n", 10, OutOfRange),
+    (10, 10, "d -3 0 17\n", 10, UnknownLine),
+    (10, 10, "f 17\n", 10, UnknownLine),
+    // Answers without a question, claims that are passed over, and too few of them.
+    (2, 2, "f 1\n", 2, OutOfOrder),
+    (2, 2, "u\n", 2, OutOfOrder),
+    (10, 10, "f 6 12 5 1\nf 6 12 5 1\n", 11, OutOfOrder),
+    (4, 4, "c 2 1 0 0\n", 4, OutOfOrder),
+    (14, 14, "x 3\ne\n", 14, OutOfOrder),
+    (5, 13, "", 5, Incomplete),
     // The archive is as it is, and the library is at a class; it is at two classes at once; and p is there without what it
     // needs.
     (6, 6, "m 1 4\n", 6, NotAFuture),
@@ -120,8 +164,9 @@ const MARKED_EDITS: &[Edit] = &[
         LimitNotReached,
     ),
     (5, 5, "q 12 2\n", 8, WrongClaim),
-    // A line that propagation finds is not new.
+    // A line that propagation finds is not new, nor is one that speaks of a package that the question does not reach.
     (6, 6, "d -6 -2 0 1\n", 7, NotNew),
+    (6, 6, "d -13 4 -2 0 9 10\n", 7, NotNew),
 ];
 
 /// Of the certificate of outdated packages at mode essential.
@@ -161,8 +206,9 @@ const CROWDED_EDITS: &[Edit] = &[
 /// A certificate with its edits, and what it is over.
 type Edited = (&'static str, &'static str, &'static [Edit]);
 
-const EDITED: [Edited; 5] = [
+const EDITED: [Edited; 6] = [
     (OLD, STALE, STALE_EDITS),
+    (FOUR, DOUBTED, DOUBTED_EDITS),
     (ESSENTIAL, SHUT_OUT, SHUT_OUT_EDITS),
     (LIBRARY, BROKEN, BROKEN_EDITS),
     (MOVING, CROWDED, CROWDED_EDITS),
@@ -178,6 +224,16 @@ fn hold(rt: &(impl Abort + AllocGlobal), all: &[Edited]) {
 #[test]
 fn edits_of_certificates_on_futures_are_refused(rt: HostRuntime) {
     hold(&rt, &EDITED);
+}
+
+#[test]
+fn fronts_of_a_certificate_of_outdated_packages_are_truncated(rt: HostRuntime) {
+    hold_fronts(&rt, OLD, STALE.as_bytes());
+}
+
+#[test]
+fn fronts_of_a_certificate_of_challenges_are_truncated(rt: HostRuntime) {
+    hold_fronts(&rt, LIBRARY, BROKEN.as_bytes());
 }
 
 const TEXTS: [Text; 2] = [

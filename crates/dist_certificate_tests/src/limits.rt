@@ -1,9 +1,10 @@
-//! Texts that pass a number, and files that are not read.
+//! Texts that pass a number, lines that are too long, and files that are not read.
+use crate::future_certificates::{BROKEN, CROWDED, MOVING, OLD, STALE};
 use dist_cert::CertCause::LineTooLong;
 use dist_check::Verdict;
 use dist_outside::{Limits, What, WorkError};
-use dist_samples::{TEN, TWO, limited};
-use dist_verdicts::{answer, answer_at, at, edited, fault_of};
+use dist_samples::{LIBRARY, TEN, TWO, limited};
+use dist_verdicts::{answer, answer_at, at, edited};
 use std::alloc::Global;
 use std::process::Abort;
 
@@ -73,15 +74,57 @@ fn numbers_are_counted(rt: HostRuntime) {
     hold_passed(&rt, &PASSED);
 }
 
+/// Stanzas, their certificate, a line of it that a longer one takes the place of, or one that it hasn't, the most bytes of a
+/// line, and the line that is too long, if one is.
+type Long = (&'static str, &'static str, u64, u32, Option<u64>);
+
+/// A line of 63 bytes and its line feed.
+const LONGER: &str = "f 1 1 1 1 1 1 1 1 1 1 1 1 1 1 1 1 1 1 1 1 1 1 1 1 1 1 1 1 1 1 1\n";
+
+/// A line may have one byte less than its limit, and its line feed. The first lines have 49, 51, 55 and 59 bytes.
+const LONG: [Long; 13] = [
+    (TWO, TEN, 99, 10, Some(1)),
+    (TWO, TEN, 99, 49, Some(1)),
+    (TWO, TEN, 99, 50, None),
+    (TWO, TEN, 5, 50, Some(5)),
+    (OLD, STALE, 99, 51, Some(1)),
+    (OLD, STALE, 99, 52, None),
+    (OLD, STALE, 3, 52, Some(3)),
+    (LIBRARY, BROKEN, 99, 55, Some(1)),
+    (LIBRARY, BROKEN, 99, 56, None),
+    (LIBRARY, BROKEN, 10, 56, Some(10)),
+    (MOVING, CROWDED, 99, 59, Some(1)),
+    (MOVING, CROWDED, 99, 60, None),
+    (MOVING, CROWDED, 7, 60, Some(7)),
+];
+
+/// Whether a row has a line that is too long, or is accepted where it says so.
+fn is_measured(alloc: Global, row: &Long) -> Option<bool> {
+    let (stanzas, text, line, number, long) = *row;
+    let text = edited(alloc, text, line, line, LONGER)?;
+    let answer = answer(alloc, stanzas, &text, &limited(What::RecordLine, number))?;
+    Some(match (answer, long) {
+        (Ok(Verdict::Refused(fault)), Some(line)) => Some(fault) == at(line, LineTooLong),
+        (Ok(Verdict::Accepted(_, _)), None) => true,
+        _ => false,
+    })
+}
+
+fn hold_long(rt: &(impl Abort + AllocGlobal), rows: &[Long]) {
+    for row in rows {
+        assert_eq!(rt;
+            is_measured(rt.alloc(), row),
+            Some(true),
+            "{}, {}",
+            row.1,
+            row.3
+        );
+    }
+}
+
 #[test]
 fn a_line_may_be_too_long(rt: HostRuntime) {
-    let fault = fault_of(
-        rt.alloc(),
-        TWO,
-        TEN.as_bytes(),
-        &limited(What::RecordLine, 10),
-    );
-    assert_eq!(rt; fault, at(1, LineTooLong));
+    hold_long(&rt, &LONG);
 }
 
 /// The desk's call that fails, the name that is asked for, and the error of work.

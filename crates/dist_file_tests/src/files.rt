@@ -155,7 +155,11 @@ const FAULTY: [Faulty; 26] = [
 /// How many packages a file has, or why it is refused.
 fn packages(alloc: Global, text: &str, stanzas: u32) -> Result<u32, PackagesError> {
     match read_packages(alloc, text.as_bytes(), stanzas) {
-        Ok(repository) => Ok(repository.len()),
+        Ok(repository) => {
+            let count = repository.len();
+            drop(repository);
+            Ok(count)
+        }
         Err(error) => Err(error),
     }
 }

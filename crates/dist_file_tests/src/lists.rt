@@ -45,7 +45,11 @@ fn named(alloc: Global, repository: &Repository, text: &str) -> Option<Named> {
         return None;
     }
     match read_list(alloc, repository, text.as_bytes()) {
-        Ok(members) => Some(Ok([members.value(1), members.value(2), members.value(3)])),
+        Ok(members) => {
+            let named = [members.value(1), members.value(2), members.value(3)];
+            drop(members);
+            Some(Ok(named))
+        }
         Err(ListError::Bad(line)) => Some(Err(line)),
         Err(ListError::NoMemory) => None,
     }
@@ -63,10 +67,11 @@ fn hold(rt: &(impl Abort + AllocGlobal), repository: &Repository, rows: &[(&str,
 
 #[test]
 fn sets(rt: HostRuntime) -> Result<(), Fail> {
-    match repository(rt.alloc(), STANZAS) {
-        Some(repository) => hold(&rt, &repository, &ROWS),
-        None => Err("no repository")?,
-    }
+    let Some(repository) = repository(rt.alloc(), STANZAS) else {
+        return Err("no repository")?;
+    };
+    hold(&rt, &repository, &ROWS);
+    drop(repository);
     Ok(())
 }
 
