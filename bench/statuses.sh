@@ -78,6 +78,18 @@ wants 5 '' 'distfuture: read fault' health missing both
 wants 5 '' 'distfuture: read fault' health packages missing
 wants 8 '' 'distfuture: too large: Bytes' health long both
 wants 9 'unmet a=1: b' '' health packages alone
+printf 'Package: c\nVersion: 2\n' >later
+printf 'Package: c\nVersion: 0\n' >earlier
+printf '= removal a\n= upload c 2\nPackage: c\nVersion: 2\n' >journal
+printf '= removal a\n= removal a\n' >twice
+wants 0 'removal a
+removal b
+upload c=1 at 2: c' '' steps packages later
+wants 12 'not a future at c=0' '' steps packages earlier
+wants 0 'steps 2
+packages 2' '' follow packages cert journal
+wants 4 '' "distfuture: certificate refused at line $(($(wc -l <cert))): Truncated" follow packages cut journal
+wants 11 '' 'distfuture: bad journal at line 2: NotHeld' follow packages cert twice
 wants 10 '' 'distfuture: bad list at line 1' health packages unknown
 
 # Memory that is too small for the file.

@@ -10,16 +10,21 @@ use Rattle.dist_package.specs.declared.error.PackagesError.{PackagesError}
 use Rattle.dist_package.specs.declared.error.PackagesError.TheVariants as packages_error
 use Rattle.dist_repo.specs.PackageList.{PackageList}
 use Rattle.dist_repo.specs.declared.package.Package.{Package}
-use Rattle.dist_words.specs.CommandLine.{CommandLine, Health, Classes, Sweep, Check, Try, Steps}
+use Rattle.dist_words.specs.CommandLine.{CommandLine, Health, Classes, Sweep, Check, Try, Steps, Follow}
 use Rattle.dist_words.specs.Table.{command_of}
 use Rattle.dist_outside.specs.declared.trouble.What.{What}
 use Rattle.dist_outside.specs.declared.trouble.WorkError.{WorkError}
 use Rattle.dist_outside.specs.declared.trouble.WorkError.TheVariants as work
-use Rattle.dist_repo.specs.Order.{IsInOrder}
+use Rattle.dist_repo.specs.Order.{IsInOrder, IsLatestOf}
 use Rattle.dist_cert.specs.declared.records.CertKind.{CertKind}
 use Rattle.dist_cert.specs.declared.records.Claim.{Claim}
 use Rattle.dist_cert.specs.declared.records.Header.{Header}
+use Rattle.dist_space.specs.Space.{IsSpace, SpaceView}
+use Rattle.dist_space.specs.SpaceOf.{IsSpaceOf}
 use Rattle.dist_subject.specs.Limited.{PassesFirst}
+use Rattle.dist_journal.specs.OneEnd.{HasOneEnd}
+use Rattle.dist_journal.specs.declared.fault.FollowError.{FollowError}
+use Rattle.dist_journal.specs.declared.fault.FollowError.TheVariants as follow_error
 use Rattle.dist_check.specs.Answers.{Answers, IsOfText}
 use Rattle.dist_judge.specs.Judging.{OfText}
 use Rattle.dist_check.specs.declared.verdict.Verdict.{Verdict}
@@ -27,12 +32,14 @@ use Rattle.dist_check.specs.declared.verdict.Verdict.TheVariants.{Accepted, Refu
 use Rattle.dist_app.specs.Check.{CertificateStage, IsEndOfCertificate, IsJudged, Reports}
 use Rattle.dist_app.specs.Classes.{TellsClasses}
 use Rattle.dist_app.specs.Command.{CommandDecides, CommandRefuses, CommandIsGivenUp}
+use Rattle.dist_app.specs.Follow.{IsEndOfJournal, JournalStage, TellsFollowed}
 use Rattle.dist_app.specs.Health.{ListStage, Judges}
 use Rattle.dist_app.specs.PackagesStage.{PackagesStage}
 use Rattle.dist_app.specs.RepositoryStage.{IsEndOf, RepositoryStage}
 use Rattle.dist_app.specs.Run.{Decides, Refuses, IsRunGivenUp}
 use Rattle.dist_app.specs.Stages.{Ending, Goes, Ends, IsDetermined, Excludes, refused}
-use Rattle.dist_app.specs.Steps.{Compares, SpaceStage}
+use Rattle.dist_app.specs.SpaceStage.{IsSpaceOfFile, SpaceStage}
+use Rattle.dist_app.specs.Steps.{TellsLater}
 use Rattle.dist_app.specs.Sweeps.{InputsStage, SweepStages, Sweeps}
 use Rattle.dist_app.specs.TextStage.{TextStage}
 use Rattle.dist_app.specs.Try.{ArchiveStage}
@@ -69,13 +76,30 @@ abbrev pub HaveOneNumber : Type 0
 HaveOneNumber = (r : PackageList) (kind : CertKind) (essential : Bool) (limits : Limits) (what other : What) → IsInOrder r.packages
     → PassesFirst r kind essential limits what → PassesFirst r kind essential limits other → other ≡ what
 
+-- a file has one space at a mode
+abbrev pub HaveOneSpace : Type 0
+HaveOneSpace = (r : PackageList) (essential : Bool) (s other : SpaceView) → IsSpaceOfFile essential r s → IsSpaceOfFile essential r other → other ≡ s
+
+-- as the laws of newest versions and of spaces say
+pub one-space : ((r latest other : PackageList) → IsLatestOf r latest → IsLatestOf r other → other ≡ latest)
+    → ((r : PackageList) (essential : Bool) (s other : SpaceView) → IsSpaceOf r essential s → IsSpaceOf r essential other → other ≡ s) → HaveOneSpace
+one-space newest spaces r essential s other is is' =
+    spaces s.repository essential s other is.1
+    (subst (λ (x : PackageList). IsSpaceOf x essential other) (newest r s.repository other.repository is.0 is'.0) is'.1)
+
+-- a journal has one end
+abbrev pub HaveOneEnd : Type 0
+HaveOneEnd = (s : SpaceView) (limit : ℕ) (journal : List ℕ) (old : List Package) → IsSpace s → HasOneEnd s limit journal old
+
 -- each Packages text has one repository or one error, each LIST one set or one first bad line, each CERT one answer, and of what a sweep is judged by one
--- number is passed first
+-- number is passed first; each file has one space at a mode, and each journal one end
 pub record AreExact : Type 0 where
   pub packages : (text : List ℕ) (limit : ℕ) → HasOneAnswer text limit
   pub lists : (packages : List Package) (text : List ℕ) → ListHasOneAnswer packages text
   pub certificates : HaveOneAnswer
   pub numbers : HaveOneNumber
+  pub spaces : HaveOneSpace
+  pub journals : HaveOneEnd
 
 repository_determined : AreExact → (files : Option Files) (stanzas : ℕ) (text : List ℕ) → IsDetermined (RepositoryStage files stanzas text)
 repository_determined exact files stanzas text (Goes a) (Goes b) f g = ap Goes ((exact.packages text stanzas).one_repository a b f g)
@@ -129,11 +153,40 @@ inputs_determined one files limits kind essential r order (Ends e) (Goes b) (num
 inputs_determined one files limits kind essential r order (Ends e) (Ends o) (number, passes, is) (other, passes', is') =
     ap Ends (is' ∙ ap (λ (n : What). refused files (refusal.TooLarge n)) (one r kind essential limits number other order passes passes') ∙ sym is)
 
-pub space_determined : (files : Option Files) (limits : Limits) (r : PackageList) → IsDetermined (SpaceStage files limits r)
-space_determined files limits r (Goes a) (Goes b) f g = refl
-space_determined files limits r (Goes a) (Ends e) none (more, is) = absurd (none more)
-space_determined files limits r (Ends e) (Goes b) (more, is) none = absurd (none more)
-space_determined files limits r (Ends e) (Ends o) (more, is) (more', is') = ap Ends (is' ∙ sym is)
+-- a space that keeps its number passes none
+space_kept : HaveOneSpace → (limits : Limits) (essential : Bool) (r : PackageList) (s other : SpaceView) → IsSpaceOfFile essential r s
+    → length s.meanings ≤ limits.variables → IsSpaceOfFile essential r other → ¬ (limits.variables < length other.meanings)
+space_kept one limits essential r s other is within also more =
+    let same = one r essential s other is also in
+    omega (arith, ap (λ (x : SpaceView). length x.meanings) same, within, more)
+
+pub space_determined : HaveOneSpace → (files : Option Files) (limits : Limits) (essential : Bool) (r : PackageList)
+    → IsDetermined (SpaceStage files limits essential r)
+space_determined one files limits essential r (Goes a) (Goes b) (is, within) (is', within') = ap Goes (one r essential a b is is')
+space_determined one files limits essential r (Goes a) (Ends e) (is, within) ((space, latest, of, more), told) =
+    absurd (space_kept one limits essential r a space is within (latest, of) more)
+space_determined one files limits essential r (Ends e) (Goes b) ((space, latest, of, more), told) (is, within) =
+    absurd (space_kept one limits essential r b space is within (latest, of) more)
+space_determined one files limits essential r (Ends e) (Ends o) (more, is) (more', is') = ap Ends (is' ∙ sym is)
+
+-- ---- JOURNAL
+
+one_journal_end : (files : Option Files) (error : FollowError) (e other : Ending) → IsEndOfJournal files error e → IsEndOfJournal files error other
+    → other ≡ e
+one_journal_end files (follow_error.Bad line fault) e other is is' = is' ∙ sym is
+one_journal_end files follow_error.TooMany e other is is' = is' ∙ sym is
+one_journal_end files follow_error.NoMemory e other is is' = absurd is
+
+pub journal_determined : HaveOneEnd → (files : Option Files) (stanzas : ℕ) (space : SpaceView) (journal : List ℕ) → IsSpace space
+    → IsDetermined (JournalStage files stanzas space journal)
+journal_determined one files stanzas space journal is_space (Goes a) (Goes b) f g = refl
+journal_determined one files stanzas space journal is_space (Goes a) (Ends e) (archive, count, followed) (error, (left, stopped), end) =
+    absurd ((one space stanzas journal space.repository.packages is_space).never_both archive left count error followed stopped)
+journal_determined one files stanzas space journal is_space (Ends e) (Goes b) (error, (left, stopped), end) (archive, count, followed) =
+    absurd ((one space stanzas journal space.repository.packages is_space).never_both archive left count error followed stopped)
+journal_determined one files stanzas space journal is_space (Ends e) (Ends o) (error, (left, stopped), end) (also, (left', stopped'), end') =
+    let same = (one space stanzas journal space.repository.packages is_space).one_error left left' error also stopped stopped' in
+    ap Ends (one_journal_end files error e o end (subst (λ (x : FollowError). IsEndOfJournal files x o) same end'))
 
 -- a repository of packages is in order
 pub in_order : (files : Option Files) (limits : Limits) (name : List ℕ) (r : PackageList) → PackagesStage files limits name (Goes r) → IsInOrder r.packages
@@ -241,9 +294,19 @@ command_excludes exact (Try size seed) files limits =
     (λ r goes end ending refuses tries. tries.first end refuses)
 command_excludes exact (Steps packages later) files limits =
     then_excludes (PackagesStage (Some files) limits packages) _ _ (packages_determined exact files limits packages) (λ r goes.
-    then_excludes (SpaceStage (Some files) limits r) _ _ (space_determined (Some files) limits r) (λ _ kept.
+    then_excludes (SpaceStage (Some files) limits false r) _ _ (space_determined exact.spaces (Some files) limits false r) (λ space made.
     then_excludes (PackagesStage (Some files) limits later) _ _ (packages_determined exact files limits later) (λ l goes'.
-    nothing_excludes (Compares (Some files) r l))))
+    nothing_excludes (TellsLater (Some files) space l))))
+command_excludes exact (Follow packages cert journal) files limits =
+    then_excludes (PackagesStage (Some files) limits packages) _ _ (packages_determined exact files limits packages) (λ r goes.
+    then_excludes (CertificateStage (Some files) limits cert r) _ _
+    (certificate_determined exact.certificates files limits cert r (in_order (Some files) limits packages r goes)) (λ accepted judged.
+    then_excludes (SpaceStage (Some files) limits accepted.0.essential r) _ _
+    (space_determined exact.spaces (Some files) limits accepted.0.essential r) (λ space made.
+    then_excludes (TextStage (Some files) journal limits.bytes) _ _ (text_determined files journal limits.bytes) (λ text whole.
+    then_excludes (JournalStage (Some files) limits.stanzas space text) _ _
+    (journal_determined exact.journals (Some files) limits.stanzas space text made.0.1.space) (λ _ followed.
+    nothing_excludes (TellsFollowed (Some files) limits.stanzas space accepted text))))))
 
 -- nor is a fault of writing the end
 given_up_excludes : AreExact → (line : CommandLine) (files : Files) (limits : Limits)
@@ -256,6 +319,7 @@ given_up_excludes exact (Sweep kind packages cert essential limit) files limits 
 given_up_excludes exact (Check packages cert) files limits end ending refuses given_up = absurd given_up
 given_up_excludes exact (Try size seed) files limits end ending refuses given_up = absurd given_up
 given_up_excludes exact (Steps packages later) files limits end ending refuses given_up = absurd given_up
+given_up_excludes exact (Follow packages cert journal) files limits end ending refuses given_up = absurd given_up
 
 pub one_line : (line other : CommandLine) (found : Option CommandLine) → found ≡ Some line → found ≡ Some other → other ≡ line
 one_line line other found is is' = cc

@@ -20,6 +20,11 @@ use Rattle.dist_now.specs.declared.kinds.Health.TheVariants as health
 use Rattle.dist_budget.specs.Budget.{IsBelowBudget}
 use Rattle.dist_cert.specs.Part.{IsStoppedBy}
 use Rattle.dist_cert.specs.declared.records.CertKind.{CertKind}
+use Rattle.dist_cert.specs.declared.records.Claim.{Claim}
+use Rattle.dist_cert.specs.declared.records.Header.{Header}
+use Rattle.dist_journal.specs.declared.fault.FollowError.{FollowError}
+use Rattle.dist_journal.specs.declared.fault.FollowError.TheVariants as follow_error
+use Rattle.dist_history.specs.FollowText.{follow_text}
 use Rattle.dist_subject.specs.Basis.{Basis, IsBasisOf, matter_of}
 use Rattle.dist_sweep.specs.Sweep.{IsFull, OfSweep, header_of}
 use Rattle.dist_trial.specs.Summary.{has_marks}
@@ -27,20 +32,22 @@ use Rattle.dist_trial.specs.Trial.{IsStoppedAt}
 use Rattle.dist_check.specs.Answers.{IsOfText}
 use Rattle.dist_check.specs.declared.verdict.Verdict.{Verdict}
 use Rattle.dist_check.specs.declared.verdict.Verdict.TheVariants as verdict
-use Rattle.dist_words.specs.CommandLine.{CommandLine, Health, Classes, Sweep, Check, Try, Steps}
+use Rattle.dist_words.specs.CommandLine.{CommandLine, Health, Classes, Sweep, Check, Try, Steps, Follow}
 use Rattle.dist_words.specs.Table.{command_of}
 use Rattle.dist_app.specs.Check.{CertificateStage, IsEndOfCertificate, IsJudged, Reports}
 use Rattle.dist_app.specs.Claims.{has_mark, marked_status}
 use Rattle.dist_app.specs.Classes.{TellsClasses}
 use Rattle.dist_app.specs.Command.{CommandDecides, CommandIsGivenUp, IsApart}
-use Rattle.dist_app.specs.Complete.{Completes, IsComplete, IsStatusOfLater, IsStatusOfSet, IsUndisturbed, StopsBelowBudget, TrialIsComplete}
-use Rattle.dist_app.specs.Complete.{verdict_status}
+use Rattle.dist_app.specs.Complete.{Completes, IsComplete, IsNotAccepted, IsStatusOfJournal, IsStatusOfLater, IsStatusOfSet, IsUndisturbed}
+use Rattle.dist_app.specs.Complete.{StopsBelowBudget, TrialIsComplete, stop_status, verdict_status}
+use Rattle.dist_app.specs.Follow.{IsEndOfJournal, JournalStage, JournalStages, TellsFollowed}
 use Rattle.dist_app.specs.Headline.{IsCarriedOut}
 use Rattle.dist_app.specs.Health.{Judges, ListStage, ListStages, Tells}
 use Rattle.dist_app.specs.PackagesStage.{PackagesStage}
 use Rattle.dist_app.specs.Run.{Comes, Decides, IsRunGivenUp, Runs}
 use Rattle.dist_app.specs.Stages.{Ending, Goes, Then, answered}
-use Rattle.dist_app.specs.Steps.{Compares, SpaceStage, TellsLater}
+use Rattle.dist_app.specs.SpaceStage.{SpaceStage}
+use Rattle.dist_app.specs.Steps.{TellsLater}
 use Rattle.dist_app.specs.Sweeps.{InputsStage, Sweeps}
 use Rattle.dist_app.specs.TextStage.{TextStage}
 use Rattle.dist_app.specs.Try.{ArchiveStage, Tries}
@@ -49,7 +56,8 @@ use Rattle.dist_app.specs.declared.refusal.Refusal.TheVariants as refusal
 use Rattle.dist_app.specs.declared.status.Status.{Status}
 use Rattle.dist_app.specs.declared.status.Status.TheVariants.{Done, WriteFault, NoMemory, TooLarge, NotAFuture}
 use Rattle.dist_app.proofs.CommandLaws.{AreExact, one_line, archive_determined, inputs_determined, end_of_text, in_order, list_determined, one_judgement}
-use Rattle.dist_app.proofs.CommandLaws.{packages_determined, space_determined, text_determined}
+use Rattle.dist_app.proofs.CommandLaws.{HaveOneEnd, certificate_determined, packages_determined, space_determined, text_determined}
+use Rattle.dist_app.proofs.FollowStages.{AfterCertificate}
 use Rattle.dist_app.proofs.Headlines.{of_line}
 use Rattle.dist_app.proofs.Refused.{mark_carried_out}
 use Rattle.dist_app.proofs.StageLaws.{then_goes}
@@ -248,26 +256,87 @@ told_later files space l ending tells =
       | inr misfit ↦ inr (status_from ending (answered files NotAFuture (misfit_text misfit.misfit)) misfit.is, misfit.is_no_future)
     ]
 
-later_comes_to : AreNewestOnce → (files : Option Files) (r l newest newest_later : PackageList) (ending : Ending) → IsLatestOf r newest
-    → IsLatestOf l newest_later → Compares files r l ending → IsStatusOfLater newest newest_later ending.status
-later_comes_to once files r l newest newest_later ending latest latest_later (space, is, tells) =
-    subst (λ (x : PackageList). IsStatusOfLater x newest_later ending.status) (once r newest space.repository latest is.0)
-    (subst (λ (x : PackageList). IsStatusOfLater space.repository x ending.status) (once l newest_later tells.later latest_later tells.is_newest)
-    (told_later files space l ending tells))
+later_comes_to : AreNewestOnce → (files : Option Files) (space : SpaceView) (l newest_later : PackageList) (ending : Ending)
+    → IsLatestOf l newest_later → TellsLater files space l ending → IsStatusOfLater space.repository newest_later ending.status
+later_comes_to once files space l newest_later ending latest_later tells =
+    subst (λ (x : PackageList). IsStatusOfLater space.repository x ending.status) (once l newest_later tells.later latest_later tells.is_newest)
+    (told_later files space l ending tells)
 
-steps_end : Laws → (files : Files) (limits : Limits) (packages later : List ℕ) (r l newest newest_later : PackageList) (ending : Ending)
-    → PackagesStage (Some files) limits packages (Goes r) → SpaceStage (Some files) limits r (Goes tt)
+steps_end : Laws → (files : Files) (limits : Limits) (packages later : List ℕ) (r l newest_later : PackageList) (space : SpaceView) (ending : Ending)
+    → PackagesStage (Some files) limits packages (Goes r) → SpaceStage (Some files) limits false r (Goes space)
     → PackagesStage (Some files) limits later (Goes l)
-    → IsLatestOf r newest → IsLatestOf l newest_later → CommandDecides (Steps packages later) (Some files) limits ending
-    → IsStatusOfLater newest newest_later ending.status
-steps_end laws files limits packages later r l newest newest_later ending read kept read_later latest latest_later decides =
-    later_comes_to laws.newest (Some files) r l newest newest_later ending latest latest_later
-    (then_goes (PackagesStage (Some files) limits later) (Compares (Some files) r) (packages_determined laws.texts files limits later) l read_later ending
-    (then_goes (SpaceStage (Some files) limits r) (λ _. Then (PackagesStage (Some files) limits later) (Compares (Some files) r))
-    (space_determined (Some files) limits r) tt kept ending
+    → IsLatestOf l newest_later → CommandDecides (Steps packages later) (Some files) limits ending
+    → IsStatusOfLater space.repository newest_later ending.status
+steps_end laws files limits packages later r l newest_later space ending read made read_later latest_later decides =
+    later_comes_to laws.newest (Some files) space l newest_later ending latest_later
+    (then_goes (PackagesStage (Some files) limits later) (TellsLater (Some files) space) (packages_determined laws.texts files limits later) l read_later
+    ending
+    (then_goes (SpaceStage (Some files) limits false r) (λ s. Then (PackagesStage (Some files) limits later) (TellsLater (Some files) s))
+    (space_determined laws.texts.spaces (Some files) limits false r) space made ending
     (then_goes (PackagesStage (Some files) limits packages)
-    (λ x. Then (SpaceStage (Some files) limits x) (λ _. Then (PackagesStage (Some files) limits later) (Compares (Some files) x)))
+    (λ x. Then (SpaceStage (Some files) limits false x) (λ s. Then (PackagesStage (Some files) limits later) (TellsLater (Some files) s)))
     (packages_determined laws.texts files limits packages) r read ending decides)))
+
+-- ---- `follow`
+
+refused_status : Laws → (files : Files) (limits : Limits) (packages cert journal : List ℕ) (r : PackageList) (answer : Result Verdict WorkError)
+    (ending : Ending) → PackagesStage (Some files) limits packages (Goes r) → IsOfText answer → IsJudged (Some files) limits cert r answer
+    → IsNotAccepted answer → Then (CertificateStage (Some files) limits cert r) (AfterCertificate limits journal r (Some files)) ending
+    → ending.status ≡ verdict_status answer
+refused_status laws files limits packages cert journal r answer ending read of_text judged other (inl (found, judged', end)) =
+    let same = one_judgement laws.texts.certificates files limits cert r found answer (in_order (Some files) limits packages r read) judged' judged
+    (end_of_text (Some files) found ending end) of_text in
+    end_status (Some files) found ending end ∙ ap verdict_status (sym same)
+refused_status laws files limits packages cert journal r answer ending read of_text judged other (inr (accepted, judged', rest)) =
+    let same = one_judgement laws.texts.certificates files limits cert r (Ok (verdict.Accepted accepted.0 accepted.1)) answer
+    (in_order (Some files) limits packages r read) judged' judged tt of_text in
+    absurd (subst IsNotAccepted same other)
+
+follow_judges : Laws → (files : Files) (limits : Limits) (packages cert journal : List ℕ) (r : PackageList) (answer : Result Verdict WorkError)
+    (ending : Ending) → PackagesStage (Some files) limits packages (Goes r) → IsOfText answer → IsJudged (Some files) limits cert r answer
+    → IsNotAccepted answer → CommandDecides (Follow packages cert journal) (Some files) limits ending → ending.status ≡ verdict_status answer
+follow_judges laws files limits packages cert journal r answer ending read of_text judged other decides =
+    refused_status laws files limits packages cert journal r answer ending read of_text judged other
+    (then_goes (PackagesStage (Some files) limits packages)
+    (λ x. Then (CertificateStage (Some files) limits cert x) (AfterCertificate limits journal x (Some files)))
+    (packages_determined laws.texts files limits packages) r read ending decides)
+
+stopped_status : (files : Option Files) (error : FollowError) (ending : Ending) → IsEndOfJournal files error ending → ending.status ≡ stop_status error
+stopped_status files (follow_error.Bad line fault) ending is = ap (λ (x : Ending). x.status) is
+stopped_status files follow_error.TooMany ending is = ap (λ (x : Ending). x.status) is
+stopped_status files follow_error.NoMemory ending is = absurd is
+
+journal_comes_to : HaveOneEnd → (files : Option Files) (limits : Limits) (essential : Bool) (r : PackageList) (space : SpaceView)
+    (accepted : Header × List Claim) (text : List ℕ) (ending : Ending) → SpaceStage files limits essential r (Goes space)
+    → Then (JournalStage files limits.stanzas space text) (λ _. TellsFollowed files limits.stanzas space accepted text) ending
+    → IsStatusOfJournal limits.stanzas space text ending.status
+journal_comes_to one files limits essential r space accepted text ending made (inl (error, stopped, end)) =
+    inr (error, stopped, stopped_status files error ending end)
+journal_comes_to one files limits essential r space accepted text ending made (inr (_, (archive, count, followed), told)) =
+    inl (
+      status_from ending (answered files Done (follow_text space told.archive told.count told.list)) told.is,
+      λ error stopped. (one space limits.stanzas text space.repository.packages made.0.1.space).never_both archive stopped.0 count error followed
+          stopped.1,
+    )
+
+follow_ends : Laws → (files : Files) (limits : Limits) (packages cert journal : List ℕ) (r : PackageList) (accepted : Header × List Claim)
+    (space : SpaceView) (text : List ℕ) (ending : Ending) → PackagesStage (Some files) limits packages (Goes r)
+    → CertificateStage (Some files) limits cert r (Goes accepted) → SpaceStage (Some files) limits accepted.0.essential r (Goes space)
+    → TextStage (Some files) journal limits.bytes (Goes text) → CommandDecides (Follow packages cert journal) (Some files) limits ending
+    → IsStatusOfJournal limits.stanzas space text ending.status
+follow_ends laws files limits packages cert journal r accepted space text ending read judged made whole decides =
+    journal_comes_to laws.texts.journals (Some files) limits accepted.0.essential r space accepted text ending made
+    (then_goes (TextStage (Some files) journal limits.bytes)
+    (λ t. Then (JournalStage (Some files) limits.stanzas space t) (λ _. TellsFollowed (Some files) limits.stanzas space accepted t))
+    (text_determined files journal limits.bytes) text whole ending
+    (then_goes (SpaceStage (Some files) limits accepted.0.essential r)
+    (λ s. JournalStages (Some files) limits journal s (TellsFollowed (Some files) limits.stanzas s accepted))
+    (space_determined laws.texts.spaces (Some files) limits accepted.0.essential r) space made ending
+    (then_goes (CertificateStage (Some files) limits cert r) (AfterCertificate limits journal r (Some files))
+    (certificate_determined laws.texts.certificates files limits cert r (in_order (Some files) limits packages r read)) accepted judged ending
+    (then_goes (PackagesStage (Some files) limits packages)
+    (λ x. Then (CertificateStage (Some files) limits cert x) (AfterCertificate limits journal x (Some files)))
+    (packages_determined laws.texts files limits packages) r read ending decides))))
 
 -- ---- all
 
@@ -281,9 +350,13 @@ module _ (laws : Laws) (words : List (List ℕ)) (limits : Limits) (files : File
     sweep = λ kind packages cert essential limit r is read kept.
         inr (sweep_ends laws files limits kind packages cert essential limit r ending read kept (of (Sweep kind packages cert essential limit) is));
     check = λ packages cert r is read. inr (check_ends laws files limits packages cert r ending read (of (Check packages cert) is));
-    steps = λ packages later r l newest newest_later is read kept read_later latest latest_later.
-        inr (steps_end laws files limits packages later r l newest newest_later ending read kept read_later latest latest_later
-        (of (Steps packages later) is));
+    steps = λ packages later r l newest_later space is read made read_later latest_later.
+        inr (steps_end laws files limits packages later r l newest_later space ending read made read_later latest_later (of (Steps packages later) is));
+    follow_judges = λ packages cert journal r answer is read of_text judged other.
+        inr (follow_judges laws files limits packages cert journal r answer ending read of_text judged other (of (Follow packages cert journal) is));
+    follow = λ packages cert journal r accepted space text is read judged made whole.
+        inr (follow_ends laws files limits packages cert journal r accepted space text ending read judged made whole
+        (of (Follow packages cert journal) is));
   }
     where
       of : (line : CommandLine) → command_of words ≡ Some line → CommandDecides line (Some files) limits ending
@@ -297,7 +370,9 @@ stored_out words limits result files left memory = record {
   classes = λ packages r is read. inl memory;
   sweep = λ kind packages cert essential limit r is read kept. inl memory;
   check = λ packages cert r is read. inl memory;
-  steps = λ packages later r l newest newest_later is read kept read_later latest latest_later. inl memory;
+  steps = λ packages later r l newest_later space is read made read_later latest_later. inl memory;
+  follow_judges = λ packages cert journal r answer is read of_text judged other. inl memory;
+  follow = λ packages cert journal r accepted space text is read judged made whole. inl memory;
 }
 
 module _ (laws : Laws) (words : List (List ℕ)) (limits : Limits) (result : Status) (desk desk' : DeskView) (out out' err err' : SinkView)

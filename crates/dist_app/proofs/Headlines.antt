@@ -1,5 +1,5 @@
--- What a run that sweeps, one of `check` and one of `steps` prove, from the end that they come to.
-use Rattle.std.proofs.Common.{◌≡◌, ℕ, Bool, List, inl, inr, Option, Some, None, ap, ◌∙◌, subst, sym}
+-- What a run that sweeps, and one of `check`, `steps` and `follow` prove, from the end that they come to.
+use Rattle.std.proofs.Common.{◌≡◌, ℕ, Bool, false, List, inl, inr, Option, Some, None, ap, ◌∙◌, subst, sym}
 use Rattle.dist_outside.specs.DeskView.{DeskView}
 use Rattle.dist_outside.specs.Files.{Files}
 use Rattle.dist_outside.specs.SinkView.{SinkView, Grew}
@@ -9,24 +9,27 @@ use Rattle.dist_space.specs.Space.{SpaceView}
 use Rattle.dist_cert.specs.declared.records.CertKind.{CertKind}
 use Rattle.dist_cert.specs.declared.records.Claim.{Claim}
 use Rattle.dist_cert.specs.declared.records.Header.{Header}
-use Rattle.dist_words.specs.CommandLine.{CommandLine, Sweep, Check, Steps}
+use Rattle.dist_words.specs.CommandLine.{CommandLine, Sweep, Check, Steps, Follow}
 use Rattle.dist_words.specs.Table.{command_of}
 use Rattle.dist_app.specs.CarriedPrivate.{IsAnswered}
 use Rattle.dist_app.specs.Check.{CertificateStage, CheckStages, Reports}
 use Rattle.dist_app.specs.Command.{CommandDecides}
-use Rattle.dist_app.specs.Headline.{CheckIsProved, IsCarriedOut, ProvesCheck, ProvesMisfit, ProvesPlan, ProvesSweep}
-use Rattle.dist_app.specs.Headline.{AreCompared, StepsAreProved, SweepIsProved}
+use Rattle.dist_app.specs.Follow.{FollowStages, TellsFollowed}
+use Rattle.dist_app.specs.Headline.{CheckIsProved, IsCarriedOut, ProvesCheck, ProvesFollow, ProvesMisfit, ProvesPlan, ProvesSweep}
+use Rattle.dist_app.specs.Headline.{AreCompared, FollowIsProved, StepsAreProved, SweepIsProved}
 use Rattle.dist_app.specs.PackagesStage.{PackagesStage}
 use Rattle.dist_app.specs.Refusal.{status_of}
 use Rattle.dist_app.specs.Run.{Decides}
 use Rattle.dist_app.specs.Stages.{Ending, Goes}
-use Rattle.dist_app.specs.Steps.{Compares, IsSpaceOfFile, StepsStages, TellsLater}
+use Rattle.dist_app.specs.SpaceStage.{IsSpaceOfFile, SpaceStage}
+use Rattle.dist_app.specs.Steps.{StepsStages, TellsLater}
 use Rattle.dist_app.specs.Sweeps.{IsSwept, SweepStages, Sweeps}
+use Rattle.dist_app.specs.TextStage.{TextStage}
 use Rattle.dist_app.specs.declared.refusal.Refusal.{Refusal}
 use Rattle.dist_app.specs.declared.status.Status.{Status}
 use Rattle.dist_app.specs.declared.status.Status.TheVariants.{Done, NotAFuture}
 use Rattle.dist_app.proofs.Refused.{IsRefusal, certificate_refuses, inputs_refuse, not_a_misfit, not_carried_out, packages_refuses, refusal_not_a_misfit}
-use Rattle.dist_app.proofs.Refused.{refusal_not_carried_out, space_refuses}
+use Rattle.dist_app.proofs.Refused.{journal_refuses, refusal_not_carried_out, space_refuses, text_refuses}
 use Rattle.dist_app.proofs.Sweeping.{ClaimsHold, sweep_means}
 
 -- words of a command decide by it
@@ -113,7 +116,7 @@ module _ (limits : Limits) (packages later : List ℕ) (desk desk' : DeskView) (
   )
 
   module _ (r l : PackageList) (space : SpaceView) (read : PackagesStage desk.files limits packages (Goes r))
-      (read_later : PackagesStage desk.files limits later (Goes l)) (is_space : IsSpaceOfFile r space) where
+      (read_later : PackagesStage desk.files limits later (Goes l)) (is_space : IsSpaceOfFile false r space) where
     pair : (tells : TellsLater desk.files space l ending) → AreCompared limits packages later desk
     pair tells = record {
       newest = space.repository;
@@ -154,11 +157,57 @@ module _ (limits : Limits) (packages later : List ℕ) (desk desk' : DeskView) (
           )
         ]
 
-  pub steps_prove : StepsStages desk.files limits packages later (Compares desk.files) ending → Proves
+  pub steps_prove : StepsStages desk.files limits packages later (TellsLater desk.files) ending → Proves
   steps_prove (inl ends) = refusal_proves (packages_refuses desk.files limits packages ending ends)
-  steps_prove (inr (r, goes, inl ends)) = refusal_proves (space_refuses desk.files limits r ending ends)
-  steps_prove (inr (r, goes, inr (_, kept, inl ends))) = refusal_proves (packages_refuses desk.files limits later ending ends)
-  steps_prove (inr (r, goes, inr (_, kept, inr (l, goes', (space, is, tells))))) = later_proves r l space goes goes' is tells
+  steps_prove (inr (r, goes, inl ends)) = refusal_proves (space_refuses desk.files limits false r ending ends)
+  steps_prove (inr (r, goes, inr (space, made, inl ends))) = refusal_proves (packages_refuses desk.files limits later ending ends)
+  steps_prove (inr (r, goes, inr (space, made, inr (l, goes', tells)))) = later_proves r l space goes goes' made.0 tells
+
+-- ---- `follow`
+
+module _ (limits : Limits) (packages cert journal : List ℕ) (desk desk' : DeskView) (out out' : SinkView) (ending : Ending)
+    (done : ending.status ≡ Done) (files : desk'.files ≡ ending.files) (printed : Grew ending.out out out') where
+  abbrev ProvesIt : Type 0
+  ProvesIt = ProvesFollow limits packages cert journal desk desk' out out'
+
+  not_refused : IsRefusal desk.files ending → ProvesIt
+  not_refused r = absurd (refusal_not_carried_out desk.files ending r (subst IsCarriedOut (sym done) tt))
+
+  followed_proves : (r : PackageList) (accepted : Header × List Claim) (space : SpaceView) (text : List ℕ)
+      → PackagesStage desk.files limits packages (Goes r) → CertificateStage desk.files limits cert r (Goes accepted)
+      → SpaceStage desk.files limits accepted.0.essential r (Goes space) → TextStage desk.files journal limits.bytes (Goes text)
+      → TellsFollowed desk.files limits.stanzas space accepted text ending → ProvesIt
+  followed_proves r accepted space text goes judged made whole told = record {
+    repository = r;
+    read = goes;
+    header = accepted.0;
+    made = accepted.1;
+    present = judged.present;
+    accepted = judged.answers;
+    space = space;
+    is_space = made.0;
+    text = text;
+    read_journal = whole;
+    archive = told.archive;
+    count = told.count;
+    followed = told.followed;
+    list = told.list;
+    are_told = told.are_told;
+    stay = told.stay;
+    printed = subst (λ (e : Ending). Grew e.out out out') told.is printed;
+    files = files ∙ ap (λ (e : Ending). e.files) told.is;
+  }
+
+  pub follow_proves : FollowStages desk.files limits packages cert journal (TellsFollowed desk.files limits.stanzas) ending → ProvesIt
+  follow_proves (inl ends) = not_refused (packages_refuses desk.files limits packages ending ends)
+  follow_proves (inr (r, goes, inl ends)) = not_refused (certificate_refuses desk.files limits cert r ending ends)
+  follow_proves (inr (r, goes, inr (accepted, judged, inl ends))) = not_refused (space_refuses desk.files limits accepted.0.essential r ending ends)
+  follow_proves (inr (r, goes, inr (accepted, judged, inr (space, made, inl ends)))) =
+      not_refused (text_refuses desk.files journal limits.bytes ending ends)
+  follow_proves (inr (r, goes, inr (accepted, judged, inr (space, made, inr (text, whole, inl ends))))) =
+      not_refused (journal_refuses desk.files limits.stanzas space text ending ends)
+  follow_proves (inr (r, goes, inr (accepted, judged, inr (space, made, inr (text, whole, inr (_, followed, told)))))) =
+      followed_proves r accepted space text goes judged made whole told
 
 -- ---- runs
 
@@ -195,3 +244,13 @@ pub steps_refused : (words : List (List ℕ)) (limits : Limits) (r : Refusal) (d
     → StepsAreProved words limits (status_of r) desk desk' out out'
 steps_refused words limits r desk desk' out out' packages later is =
     ((λ done. absurd (not_carried_out r (subst IsCarriedOut (sym done) tt))), λ misfit. absurd (not_a_misfit r misfit))
+
+pub follow_proved : (words : List (List ℕ)) (limits : Limits) (result : Status) (desk desk' : DeskView) (out out' : SinkView)
+    → IsAnswered words limits desk desk' out out' result → FollowIsProved words limits result desk desk' out out'
+follow_proved words limits result desk desk' out out' a packages cert journal is done =
+    follow_proves limits packages cert journal desk desk' out out' a.ending (sym a.status_is ∙ done) a.files a.printed
+    (of_line words desk.files limits (Follow packages cert journal) a.ending is a.decides)
+
+pub follow_refused : (words : List (List ℕ)) (limits : Limits) (r : Refusal) (desk desk' : DeskView) (out out' : SinkView)
+    → FollowIsProved words limits (status_of r) desk desk' out out'
+follow_refused words limits r desk desk' out out' packages cert journal is done = absurd (not_carried_out r (subst IsCarriedOut (sym done) tt))

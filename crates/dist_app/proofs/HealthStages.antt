@@ -11,7 +11,8 @@ use Rattle.dist_app.specs.Stages.{Ending, Step, Goes, Ends, Then, answered}
 use Rattle.dist_app.specs.TextStage.{TextStage}
 use Rattle.dist_app.specs.declared.refusal.Refusal.{Refusal}
 use Rattle.dist_app.specs.declared.status.Status.{Status}
-use Rattle.dist_app.proofs.Due.{due_more, due_later}
+use Rattle.dist_app.proofs.Chains.{chain-answers, chain-due, chain-unread}
+use Rattle.dist_app.proofs.Due.{due_more}
 
 -- a stage that takes the text of a file apart
 pub after_text_goes : {X : Type 0} (Stage : Option Files → List ℕ → Step X → Type 0) (result : Result X Refusal) (files : Option Files) (name : List ℕ)
@@ -61,22 +62,17 @@ pub packages_answers : (After : Rest) (old mid : DeskView) (limits : Limits) (pa
     → PackagesStage old.files limits packages (Goes repository) → After mid.files repository (answered mid.files status text)
     → Then (PackagesStage old.files limits packages) (After old.files) (answered old.files status text)
 packages_answers After old mid limits packages repository status text reads read decides =
-    inr (repository, read, subst (λ (files : Option Files). After files repository (answered files status text)) reads.files_stay decides)
+    chain-answers (λ files. PackagesStage files limits packages) After old mid reads repository read status text decides
 
 pub packages_due : (After : Rest) (old mid new : DeskView) (limits : Limits) (packages : List ℕ) (repository : PackageList) (refusal : Refusal)
     → OnlyReads old mid → OnlyReads mid new
     → PackagesStage old.files limits packages (Goes repository) → IsDue (After mid.files repository) mid new refusal
     → IsDue (Then (PackagesStage old.files limits packages) (After old.files)) old new refusal
 packages_due After old mid new limits packages repository refusal before after read due =
-    due_more (After old.files repository) (Then (PackagesStage old.files limits packages) (After old.files)) old new refusal
-    (λ ending decided. inr (repository, read, decided))
-    (due_later (After old.files repository) old mid new refusal before after
-    (subst (λ (files : Option Files). IsDue (After files repository) mid new refusal) before.files_stay due))
+    chain-due (λ files. PackagesStage files limits packages) After old mid before repository read new refusal after due
 
 pub packages_unread : (After : Rest) (old new : DeskView) (limits : Limits) (packages : List ℕ) (refusal : Refusal)
     → IsDue (λ ending. PackagesStage old.files limits packages (Ends ending)) old new refusal
     → IsDue (Then (PackagesStage old.files limits packages) (After old.files)) old new refusal
 packages_unread After old new limits packages refusal due =
-    due_more (λ ending. PackagesStage old.files limits packages (Ends ending)) (Then (PackagesStage old.files limits packages) (After old.files)) old new
-    refusal
-    (λ ending ends. inl ends) due
+    chain-unread (λ files. PackagesStage files limits packages) After old new refusal due

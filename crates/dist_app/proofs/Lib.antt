@@ -1,8 +1,11 @@
 pub mod CertificateStages
 pub mod CommandLaws
+pub mod Chains
 pub mod Completes
 pub mod Due
 pub mod Endings
+pub mod FollowLemmas
+pub mod FollowStages
 pub mod Headlines
 pub mod HealthStages
 pub mod HealthTexts

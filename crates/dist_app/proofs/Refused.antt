@@ -13,16 +13,20 @@ use Rattle.dist_now.specs.declared.kinds.Health.TheVariants as health
 use Rattle.dist_repo.specs.PackageList.{PackageList}
 use Rattle.dist_repo.specs.declared.package.Package.{Package}
 use Rattle.dist_space.specs.Space.{SpaceView}
+use Rattle.dist_journal.specs.declared.fault.FollowError.{FollowError}
+use Rattle.dist_journal.specs.declared.fault.FollowError.TheVariants as follow_error
+use Rattle.dist_history.specs.FollowText.{follow_text}
 use Rattle.dist_history.specs.PlanText.{misfit_text, plan_text}
 use Rattle.dist_cert.specs.declared.records.CertKind.{CertKind}
 use Rattle.dist_cert.specs.declared.records.CertKind.TheVariants as kinds
 use Rattle.dist_check.specs.declared.verdict.Verdict.{Verdict}
 use Rattle.dist_check.specs.declared.verdict.Verdict.TheVariants as verdict
 use Rattle.dist_trial.specs.Summary.{has_marks}
-use Rattle.dist_words.specs.CommandLine.{CommandLine, Health, Classes, Sweep, Check, Try, Steps}
+use Rattle.dist_words.specs.CommandLine.{CommandLine, Health, Classes, Sweep, Check, Try, Steps, Follow}
 use Rattle.dist_app.specs.Check.{CertificateStage, IsEndOfCertificate}
 use Rattle.dist_app.specs.Claims.{has_mark, marked_status}
 use Rattle.dist_app.specs.Command.{CommandDecides, CommandRefuses, CommandIsGivenUp}
+use Rattle.dist_app.specs.Follow.{IsEndOfJournal, JournalStage}
 use Rattle.dist_app.specs.Headline.{IsCarriedOut}
 use Rattle.dist_app.specs.Health.{ListStage, Tells}
 use Rattle.dist_app.specs.PackagesStage.{PackagesStage}
@@ -30,7 +34,8 @@ use Rattle.dist_app.specs.Refusal.{status_of, refusal_text}
 use Rattle.dist_app.specs.RepositoryStage.{IsEndOf}
 use Rattle.dist_app.specs.Run.{Decides, Refuses}
 use Rattle.dist_app.specs.Stages.{Ending, Ends, answered, refused}
-use Rattle.dist_app.specs.Steps.{SpaceStage, TellsLater}
+use Rattle.dist_app.specs.SpaceStage.{SpaceStage}
+use Rattle.dist_app.specs.Steps.{TellsLater}
 use Rattle.dist_app.specs.Sweeps.{InputsStage}
 use Rattle.dist_app.specs.TextStage.{TextStage}
 use Rattle.dist_app.specs.Try.{ArchiveStage}
@@ -74,6 +79,7 @@ not_carried_out refusal.WriteFault out = out
 not_carried_out refusal.NoMemory out = out
 not_carried_out (refusal.TooLarge limit) out = out
 not_carried_out (refusal.BadList line) out = out
+not_carried_out (refusal.BadJournal line fault) out = out
 
 -- nor does it end as a later archive does that is no future
 pub not_a_misfit : (r : Refusal) → ¬ (status_of r ≡ NotAFuture)
@@ -85,6 +91,7 @@ not_a_misfit refusal.WriteFault is = cc
 not_a_misfit refusal.NoMemory is = cc
 not_a_misfit (refusal.TooLarge limit) is = cc
 not_a_misfit (refusal.BadList line) is = cc
+not_a_misfit (refusal.BadJournal line fault) is = cc
 
 pub refusal_not_a_misfit : (files : Option Files) (ending : Ending) → IsRefusal files ending → ¬ (ending.status ≡ NotAFuture)
 refusal_not_a_misfit files ending r is = not_a_misfit r.why (sym (ap (λ (e : Ending). e.status) r.is) ∙ is)
@@ -94,7 +101,7 @@ refusal_not_carried_out files ending r out = not_carried_out r.why (subst (λ (e
 
 -- ---- stages
 
-text_refuses : (files : Option Files) (name : List ℕ) (limit : ℕ) (ending : Ending) → TextStage files name limit (Ends ending) → IsRefusal files ending
+pub text_refuses : (files : Option Files) (name : List ℕ) (limit : ℕ) (ending : Ending) → TextStage files name limit (Ends ending) → IsRefusal files ending
 text_refuses files name limit ending (longer, is) = record { why = refusal.TooLarge what.Bytes; of_files = tt; is = is }
 
 end_refuses : (files : Option Files) (error : PackagesError) (ending : Ending) → IsEndOf files error ending → IsRefusal files ending
@@ -128,9 +135,18 @@ pub certificate_refuses : (files : Option Files) (limits : Limits) (cert : List 
     → CertificateStage files limits cert r (Ends ending) → IsRefusal files ending
 certificate_refuses files limits cert r ending (result, judged, end) = certificate_end_refuses files result ending end
 
-pub space_refuses : (files : Option Files) (limits : Limits) (r : PackageList) (ending : Ending) → SpaceStage files limits r (Ends ending)
-    → IsRefusal files ending
-space_refuses files limits r ending (more, is) = record { why = refusal.TooLarge what.Variables; of_files = tt; is = is }
+pub space_refuses : (files : Option Files) (limits : Limits) (essential : Bool) (r : PackageList) (ending : Ending)
+    → SpaceStage files limits essential r (Ends ending) → IsRefusal files ending
+space_refuses files limits essential r ending (more, is) = record { why = refusal.TooLarge what.Variables; of_files = tt; is = is }
+
+journal_end_refuses : (files : Option Files) (error : FollowError) (ending : Ending) → IsEndOfJournal files error ending → IsRefusal files ending
+journal_end_refuses files (follow_error.Bad line fault) ending is = record { why = refusal.BadJournal line fault; of_files = tt; is = is }
+journal_end_refuses files follow_error.TooMany ending is = record { why = refusal.TooLarge what.Stanzas; of_files = tt; is = is }
+journal_end_refuses files follow_error.NoMemory ending is = absurd is
+
+pub journal_refuses : (files : Option Files) (stanzas : ℕ) (space : SpaceView) (journal : List ℕ) (ending : Ending)
+    → JournalStage files stanzas space journal (Ends ending) → IsRefusal files ending
+journal_refuses files stanzas space journal ending (error, stopped, end) = journal_end_refuses files error ending end
 
 archive_refuses : (files : Option Files) (limits : Limits) (size seed : ℕ) (ending : Ending) → ArchiveStage files limits size seed (Ends ending)
     → IsRefusal files ending
@@ -157,9 +173,19 @@ command_refuses (Check packages cert) files limits ending (inr (r, goes, inr (ac
 command_refuses (Try size seed) files limits ending (inl a) = archive_refuses files limits size seed ending a
 command_refuses (Try size seed) files limits ending (inr (r, goes, c)) = inputs_refuse files limits kinds.Strong false r ending c
 command_refuses (Steps packages later) files limits ending (inl p) = packages_refuses files limits packages ending p
-command_refuses (Steps packages later) files limits ending (inr (r, goes, inl s)) = space_refuses files limits r ending s
-command_refuses (Steps packages later) files limits ending (inr (r, goes, inr (_, kept, inl p))) = packages_refuses files limits later ending p
-command_refuses (Steps packages later) files limits ending (inr (r, goes, inr (_, kept, inr (l, goes', none)))) = absurd none
+command_refuses (Steps packages later) files limits ending (inr (r, goes, inl s)) = space_refuses files limits false r ending s
+command_refuses (Steps packages later) files limits ending (inr (r, goes, inr (space, made, inl p))) = packages_refuses files limits later ending p
+command_refuses (Steps packages later) files limits ending (inr (r, goes, inr (space, made, inr (l, goes', none)))) = absurd none
+command_refuses (Follow packages cert journal) files limits ending (inl p) = packages_refuses files limits packages ending p
+command_refuses (Follow packages cert journal) files limits ending (inr (r, goes, inl c)) = certificate_refuses files limits cert r ending c
+command_refuses (Follow packages cert journal) files limits ending (inr (r, goes, inr (accepted, judged, inl s))) =
+    space_refuses files limits accepted.0.essential r ending s
+command_refuses (Follow packages cert journal) files limits ending (inr (r, goes, inr (accepted, judged, inr (space, made, inl t)))) =
+    text_refuses files journal limits.bytes ending t
+command_refuses (Follow packages cert journal) files limits ending (inr (r, goes, inr (accepted, judged, inr (space, made, inr (text, whole, inl j))))) =
+    journal_refuses files limits.stanzas space text ending j
+command_refuses (Follow packages cert journal) files limits ending
+    (inr (r, goes, inr (accepted, judged, inr (space, made, inr (text, whole, inr (_, followed, none)))))) = absurd none
 
 pub refuses_told : (words : List (List ℕ)) (files : Option Files) (limits : Limits) (ending : Ending) → Refuses words files limits ending → ¬ (ending.err ≡ [])
 refuses_told words files limits ending (inl (bad, is)) empty = told_not_empty refusal.BadWords (sym (ap (λ (e : Ending). e.err) is) ∙ empty)
@@ -221,11 +247,24 @@ command_status (Try size seed) files limits ending (inr (r, goes, tries)) =
       | inr stopped ↦ subst (λ (e : Ending). IsOfFiles e.status) (sym stopped.is) tt
     ]
 command_status (Steps packages later) files limits ending (inl p) = refusal_status files ending (packages_refuses files limits packages ending p)
-command_status (Steps packages later) files limits ending (inr (r, goes, inl s)) = refusal_status files ending (space_refuses files limits r ending s)
-command_status (Steps packages later) files limits ending (inr (r, goes, inr (_, kept, inl p))) =
+command_status (Steps packages later) files limits ending (inr (r, goes, inl s)) =
+    refusal_status files ending (space_refuses files limits false r ending s)
+command_status (Steps packages later) files limits ending (inr (r, goes, inr (space, made, inl p))) =
     refusal_status files ending (packages_refuses files limits later ending p)
-command_status (Steps packages later) files limits ending (inr (r, goes, inr (_, kept, inr (l, goes', (space, is, told))))) =
+command_status (Steps packages later) files limits ending (inr (r, goes, inr (space, made, inr (l, goes', told)))) =
     later_status files space l ending told
+command_status (Follow packages cert journal) files limits ending (inl p) = refusal_status files ending (packages_refuses files limits packages ending p)
+command_status (Follow packages cert journal) files limits ending (inr (r, goes, inl c)) =
+    refusal_status files ending (certificate_refuses files limits cert r ending c)
+command_status (Follow packages cert journal) files limits ending (inr (r, goes, inr (accepted, judged, inl s))) =
+    refusal_status files ending (space_refuses files limits accepted.0.essential r ending s)
+command_status (Follow packages cert journal) files limits ending (inr (r, goes, inr (accepted, judged, inr (space, made, inl t)))) =
+    refusal_status files ending (text_refuses files journal limits.bytes ending t)
+command_status (Follow packages cert journal) files limits ending (inr (r, goes, inr (accepted, judged, inr (space, made, inr (text, whole, inl j))))) =
+    refusal_status files ending (journal_refuses files limits.stanzas space text ending j)
+command_status (Follow packages cert journal) files limits ending
+    (inr (r, goes, inr (accepted, judged, inr (space, made, inr (text, whole, inr (_, followed, told)))))) =
+    with_status ending (answered files Done (follow_text space told.archive told.count told.list)) told.is tt
 
 -- a command that was given up while it wrote ends with the status of why
 pub given_up_status : (line : CommandLine) (files : Option Files) (limits : Limits) (why : Refusal) (ending : Ending)
@@ -236,6 +275,7 @@ given_up_status (Sweep kind packages cert essential limit) files limits why endi
 given_up_status (Check packages cert) files limits why ending given_up = absurd given_up
 given_up_status (Try size seed) files limits why ending given_up = absurd given_up
 given_up_status (Steps packages later) files limits why ending given_up = absurd given_up
+given_up_status (Follow packages cert journal) files limits why ending given_up = absurd given_up
 
 not_of_files : (status other : Status) → IsOfFiles status → status ≡ other → IsOfFiles other
 not_of_files status other of is = subst IsOfFiles is of

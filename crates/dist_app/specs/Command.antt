@@ -3,12 +3,13 @@ use Rattle.std.specs.Prelude.{false, Option}
 use Rattle.dist_outside.specs.Files.{Files}
 use Rattle.dist_outside.specs.declared.limits.Limits.{Limits}
 use Rattle.dist_cert.specs.declared.records.CertKind.TheVariants.{Strong}
-use Rattle.dist_words.specs.CommandLine.{CommandLine, Health, Classes, Sweep, Check, Try, Steps}
+use Rattle.dist_words.specs.CommandLine.{CommandLine, Health, Classes, Sweep, Check, Try, Steps, Follow}
 use Rattle.dist_app.specs.Check.{CheckStages, Reports}
 use Rattle.dist_app.specs.Classes.{ClassesStages, TellsClasses}
+use Rattle.dist_app.specs.Follow.{FollowStages, TellsFollowed}
 use Rattle.dist_app.specs.Health.{HealthStages, Judges}
 use Rattle.dist_app.specs.Stages.{Ending, Ends}
-use Rattle.dist_app.specs.Steps.{StepsStages, Compares}
+use Rattle.dist_app.specs.Steps.{StepsStages, TellsLater}
 use Rattle.dist_app.specs.Sweeps.{InputsStage, SweepStages, Sweeps, IsSweepGivenUp}
 use Rattle.dist_app.specs.Try.{TryStages, Tries}
 use Rattle.dist_app.specs.declared.refusal.Refusal.{Refusal}
@@ -21,7 +22,9 @@ CommandDecides (Sweep kind packages cert essential limit) files limits =
     SweepStages files limits kind packages essential (Sweeps files limits kind cert essential limit)
 CommandDecides (Check packages cert) files limits = CheckStages files limits packages cert (Reports files)
 CommandDecides (Try size seed) files limits = TryStages files limits size seed (Tries files limits size)
-CommandDecides (Steps packages later) files limits = StepsStages files limits packages later (Compares files)
+CommandDecides (Steps packages later) files limits = StepsStages files limits packages later (TellsLater files)
+CommandDecides (Follow packages cert journal) files limits =
+    FollowStages files limits packages cert journal (TellsFollowed files limits.stanzas)
 
 -- The refusals that come whatever happens later: the end of a stage before the last one; of a trial also that of its
 -- first sweep, before it writes.
@@ -35,7 +38,9 @@ CommandRefuses (Check packages cert) files limits =
     CheckStages files limits packages cert (λ repository accepted ending. ⊥)
 CommandRefuses (Try size seed) files limits = TryStages files limits size seed
     (λ repository ending. InputsStage files limits Strong false repository (Ends ending))
-CommandRefuses (Steps packages later) files limits = StepsStages files limits packages later (λ r l ending. ⊥)
+CommandRefuses (Steps packages later) files limits = StepsStages files limits packages later (λ space l ending. ⊥)
+CommandRefuses (Follow packages cert journal) files limits =
+    FollowStages files limits packages cert journal (λ space accepted text ending. ⊥)
 
 -- the ends of a command that was given up while it wrote a file
 abbrev pub CommandIsGivenUp : CommandLine → Option Files → Limits → Refusal → Ending → Type 0

@@ -10,32 +10,39 @@ use Rattle.dist_outside.specs.declared.trouble.What.{What}
 use Rattle.dist_outside.specs.declared.trouble.WorkError.{WorkError}
 use Rattle.dist_repo.specs.Order.{IsLatestOf}
 use Rattle.dist_repo.specs.PackageList.{PackageList}
+use Rattle.dist_space.specs.Space.{SpaceView}
 use Rattle.dist_now.specs.Health.{IsHealth}
 use Rattle.dist_now.specs.declared.kinds.Health.TheVariants.{Healthy}
 use Rattle.dist_budget.specs.Budget.{IsBelowBudget}
 use Rattle.dist_cert.specs.Part.{IsStoppedBy}
 use Rattle.dist_cert.specs.declared.records.CertKind.{CertKind}
+use Rattle.dist_cert.specs.declared.records.Claim.{Claim}
+use Rattle.dist_cert.specs.declared.records.Header.{Header}
 use Rattle.dist_subject.specs.Basis.{matter_of}
 use Rattle.dist_sweep.specs.Sweep.{OfSweep}
 use Rattle.dist_check.specs.Answers.{IsOfText}
 use Rattle.dist_check.specs.declared.verdict.Verdict.{Verdict}
 use Rattle.dist_check.specs.declared.verdict.Verdict.TheVariants.{Accepted, Refused}
-use Rattle.dist_words.specs.CommandLine.{Health, Classes, Sweep, Check, Try, Steps}
+use Rattle.dist_journal.specs.declared.fault.FollowError.{FollowError}
+use Rattle.dist_journal.specs.declared.fault.FollowError.TheVariants as follow_error
+use Rattle.dist_words.specs.CommandLine.{Health, Classes, Sweep, Check, Try, Steps, Follow}
 use Rattle.dist_words.specs.Table.{command_of}
-use Rattle.dist_app.specs.Check.{IsJudged}
+use Rattle.dist_app.specs.Check.{CertificateStage, IsJudged}
 use Rattle.dist_app.specs.Claims.{claims_status}
+use Rattle.dist_app.specs.Follow.{IsStoppedFor}
 use Rattle.dist_app.specs.Headline.{IsCarriedOut}
 use Rattle.dist_app.specs.Health.{ListStage}
 use Rattle.dist_app.specs.PackagesStage.{PackagesStage}
 use Rattle.dist_app.specs.Run.{TellsFiles}
+use Rattle.dist_app.specs.SpaceStage.{SpaceStage}
 use Rattle.dist_app.specs.Stages.{Goes}
-use Rattle.dist_app.specs.Steps.{IsFutureArchive, SpaceStage}
+use Rattle.dist_app.specs.Steps.{IsFutureArchive}
 use Rattle.dist_app.specs.Sweeps.{InputsStage}
 use Rattle.dist_app.specs.TextStage.{TextStage}
 use Rattle.dist_app.specs.Try.{ArchiveStage}
 use Rattle.dist_app.specs.declared.status.Status.{Status}
 use Rattle.dist_app.specs.declared.status.Status.TheVariants.{Done, CertificateRefused, NoMemory, TooLarge, NotHealthy}
-use Rattle.dist_app.specs.declared.status.Status.TheVariants.{NotAFuture}
+use Rattle.dist_app.specs.declared.status.Status.TheVariants.{BadJournal, NotAFuture}
 
 -- The desk tells its files, and no fault of the desk or of `out` was counted.
 pub record IsUndisturbed (desk desk' : DeskView) (out out' : SinkView) : Type 0 where
@@ -123,11 +130,47 @@ IsStatusOfLater r later status = ((status ≡ Done) × IsFutureArchive r later)
 -- The space of PACKAGES keeps its number of variables, and LATER has a repository. The newest versions of both decide.
 abbrev pub StepsAreComplete : List (List ℕ) → Limits → Status → Option Files → Type 0
 StepsAreComplete words limits result files =
-    (packages later : List ℕ) (r l newest newest_later : PackageList)
+    (packages later : List ℕ) (r l newest_later : PackageList) (space : SpaceView)
     → command_of words ≡ Some (Steps packages later)
-    → PackagesStage files limits packages (Goes r) → SpaceStage files limits r (Goes tt)
-    → PackagesStage files limits later (Goes l) → IsLatestOf r newest → IsLatestOf l newest_later
-    → (result ≡ NoMemory) ⊎ IsStatusOfLater newest newest_later result
+    → PackagesStage files limits packages (Goes r) → SpaceStage files limits false r (Goes space)
+    → PackagesStage files limits later (Goes l) → IsLatestOf l newest_later
+    → (result ≡ NoMemory) ⊎ IsStatusOfLater space.repository newest_later result
+
+-- ---- `follow`
+
+-- CERT is not accepted: the status is that of its one answer, as of `check`.
+abbrev pub IsNotAccepted : Result Verdict WorkError → Type 0
+IsNotAccepted (Ok (Accepted h made)) = ⊥
+IsNotAccepted answer = Unit {0}
+
+abbrev pub FollowJudges : List (List ℕ) → Limits → Status → Option Files → Type 0
+FollowJudges words limits result files =
+    (packages cert journal : List ℕ) (r : PackageList) (answer : Result Verdict WorkError)
+    → command_of words ≡ Some (Follow packages cert journal) → PackagesStage files limits packages (Goes r)
+    → IsOfText answer → IsJudged files limits cert r answer → IsNotAccepted answer
+    → (result ≡ NoMemory) ⊎ (result ≡ verdict_status answer)
+
+-- the status that goes with what stops a journal
+abbrev pub stop_status : FollowError → Status
+stop_status (follow_error.Bad line fault) = BadJournal
+stop_status follow_error.TooMany = TooLarge
+stop_status follow_error.NoMemory = NoMemory
+
+-- what a journal comes to: 0 exactly where nothing stops it, else 11; 8 where it has a block of too many stanzas first
+abbrev pub IsStatusOfJournal : (stanzas : ℕ) → SpaceView → (journal : List ℕ) → Status → Type 0
+IsStatusOfJournal stanzas space journal status =
+    ((status ≡ Done) × ((error : FollowError) → ¬ IsStoppedFor stanzas space journal error))
+    ⊎ ((error : FollowError) × IsStoppedFor stanzas space journal error × (status ≡ stop_status error))
+
+-- CERT is accepted, the space of its mode keeps its number of variables, and JOURNAL its bytes: the journal decides.
+abbrev pub FollowIsComplete : List (List ℕ) → Limits → Status → Option Files → Type 0
+FollowIsComplete words limits result files =
+    (packages cert journal : List ℕ) (r : PackageList) (accepted : Header × List Claim) (space : SpaceView)
+    (text : List ℕ)
+    → command_of words ≡ Some (Follow packages cert journal) → PackagesStage files limits packages (Goes r)
+    → CertificateStage files limits cert r (Goes accepted)
+    → SpaceStage files limits accepted.0.essential r (Goes space) → TextStage files journal limits.bytes (Goes text)
+    → (result ≡ NoMemory) ⊎ IsStatusOfJournal limits.stanzas space text result
 
 -- ---- all
 
@@ -139,6 +182,8 @@ pub record Completes (words : List (List ℕ)) (limits : Limits) (result : Statu
     pub sweep : SweepIsComplete words limits result files left
     pub check : CheckIsComplete words limits result files
     pub steps : StepsAreComplete words limits result files
+    pub follow_judges : FollowJudges words limits result files
+    pub follow : FollowIsComplete words limits result files
 
 -- where nothing outside fails, a run comes to what the files and the limits decide
 pub record IsComplete (words : List (List ℕ)) (limits : Limits) (result : Status) (desk desk' : DeskView)

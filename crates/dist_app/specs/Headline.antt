@@ -1,4 +1,4 @@
--- What a run that sweeps, one of `check` and one of `steps` prove.
+-- What a run that sweeps, and one of `check`, `steps` and `follow` prove.
 use Rattle.std.specs.Prelude.{◌≡◌, ◌↔◌, ◌≤◌, ◌^◌, ℕ, Bool, false, List, Some, Contains, length, slice_get}
 use Rattle.dist_outside.specs.DeskView.{DeskView}
 use Rattle.dist_outside.specs.Files.{IsPresent, file_bytes, with_file}
@@ -27,12 +27,17 @@ use Rattle.dist_check.specs.Answers.{AcceptedMeans}
 use Rattle.dist_judge.specs.Judging.{OfText}
 use Rattle.dist_check.specs.Means.{Means}
 use Rattle.dist_history.specs.PlanText.{misfit_text, plan_text}
-use Rattle.dist_words.specs.CommandLine.{Sweep, Check, Steps}
+use Rattle.dist_journal.specs.declared.broken_list.Broken.{Broken}
+use Rattle.dist_history.specs.FollowText.{follow_text}
+use Rattle.dist_words.specs.CommandLine.{Sweep, Check, Steps, Follow}
 use Rattle.dist_words.specs.Table.{command_of}
 use Rattle.dist_app.specs.Claims.{IsReportOf, claims_status}
+use Rattle.dist_app.specs.Follow.{AreToldBroken, IsFollowedWhole, StaysBroken}
 use Rattle.dist_app.specs.PackagesStage.{PackagesStage}
+use Rattle.dist_app.specs.SpaceStage.{IsSpaceOfFile}
 use Rattle.dist_app.specs.Stages.{Goes}
 use Rattle.dist_app.specs.Steps.{IsKeptAt, IsNewestIn}
+use Rattle.dist_app.specs.TextStage.{TextStage}
 use Rattle.dist_app.specs.declared.status.Status.{Status}
 use Rattle.dist_app.specs.declared.status.Status.TheVariants.{Done, DoneWithUndecided, NotAFuture}
 
@@ -109,6 +114,32 @@ pub record ProvesMisfit (limits : Limits) (packages later : List ℕ) (desk desk
   pub printed : Grew (misfit_text misfit) out out'
   pub files : desk'.files ≡ desk.files
 
+-- The file CERT was accepted over PACKAGES, the journal was followed to its end from the newest versions on, and this
+-- was told: how many steps it has, how many packages are held then, and, where CERT is of kind challenged, which of
+-- them a moved cluster breaks. Each line that names one holds after every further list of steps at whose end the
+-- archive has the cluster at a version equal to the one in the line: no healthy installation of it, at the mode of
+-- CERT, has the package. All files are as before.
+pub record ProvesFollow (limits : Limits) (packages cert journal : List ℕ) (desk desk' : DeskView) (out out' : SinkView)
+    : Type 0 where
+  pub repository : PackageList
+  pub read : PackagesStage desk.files limits packages (Goes repository)
+  pub header : Header
+  pub made : List Claim
+  pub present : IsPresent desk.files cert
+  pub accepted : OfText (file_bytes desk.files cert) (λ text. IsCompleted repository limits text header made)
+  pub space : SpaceView
+  pub is_space : IsSpaceOfFile header.essential repository space
+  pub text : List ℕ
+  pub read_journal : TextStage desk.files journal limits.bytes (Goes text)
+  pub archive : List Package
+  pub count : ℕ
+  pub followed : IsFollowedWhole limits.stanzas space text archive count
+  pub list : List Broken
+  pub are_told : AreToldBroken header.kind space archive made list
+  pub stay : (broken : Broken) → Contains list broken → StaysBroken space archive broken
+  pub printed : Grew (follow_text space archive count list) out out'
+  pub files : desk'.files ≡ desk.files
+
 -- the same of a run with these words
 abbrev pub SweepIsProved : List (List ℕ) → Limits → Status → DeskView → DeskView → SinkView → SinkView → Type 0
 SweepIsProved words limits result desk desk' out out' =
@@ -128,6 +159,12 @@ StepsAreProved words limits result desk desk' out out' = (packages later : List 
     → command_of words ≡ Some (Steps packages later)
     → (result ≡ Done → ProvesPlan limits packages later desk desk' out out')
     × (result ≡ NotAFuture → ProvesMisfit limits packages later desk desk' out out')
+
+-- and of one of `follow`: with status 0
+abbrev pub FollowIsProved : List (List ℕ) → Limits → Status → DeskView → DeskView → SinkView → SinkView → Type 0
+FollowIsProved words limits result desk desk' out out' = (packages cert journal : List ℕ)
+    → command_of words ≡ Some (Follow packages cert journal) → result ≡ Done
+    → ProvesFollow limits packages cert journal desk desk' out out'
 
 -- A question that an accepted text leaves undecided is hard: its limit is at most 3 to the power of the number of
 -- variables that it reaches.

@@ -1,5 +1,5 @@
 -- What is known of PACKAGES and LATER on the way to the answer of `steps`. No public clause cites it.
-use Rattle.std.specs.Prelude.{◌≡◌, ◌⊎◌, ◌<◌, ℕ, IsSome, List, Option, false, length}
+use Rattle.std.specs.Prelude.{◌≡◌, ◌⊎◌, ◌<◌, ℕ, Bool, IsSome, List, Option, false, length}
 use Rattle.dist_outside.specs.Files.{Files}
 use Rattle.dist_outside.specs.declared.limits.Limits.{Limits}
 use Rattle.dist_outside.specs.declared.trouble.What.TheVariants.{Variables}
@@ -8,7 +8,8 @@ use Rattle.dist_space.specs.Space.{SpaceView}
 use Rattle.dist_space.specs.SpaceOf.{HasMoreVariables}
 use Rattle.dist_app.specs.PackagesStage.{PackagesStage}
 use Rattle.dist_app.specs.Stages.{Goes, answered}
-use Rattle.dist_app.specs.Steps.{IsSpaceOfFile, SpaceStage, TellsMisfit, TellsPlan}
+use Rattle.dist_app.specs.SpaceStage.{SpaceStage}
+use Rattle.dist_app.specs.Steps.{TellsMisfit, TellsPlan}
 use Rattle.dist_app.specs.declared.refusal.Refusal.{Refusal}
 use Rattle.dist_app.specs.declared.refusal.Refusal.TheVariants.{NoMemory, TooLarge}
 use Rattle.dist_app.specs.declared.status.Status.{Status}
@@ -16,12 +17,12 @@ use Rattle.dist_app.specs.declared.status.Status.{Status}
 -- the space of a file that was read, which keeps its number of variables
 abbrev pub IsSpaceKept : Option Files → Limits → (packages : List ℕ) → SpaceView → Type 0
 IsSpaceKept files limits packages space = (r : PackageList) × PackagesStage files limits packages (Goes r)
-    × SpaceStage files limits r (Goes tt) × IsSpaceOfFile r space
+    × SpaceStage files limits false r (Goes space)
 
 -- why no space of some packages was made
-abbrev pub HasNoSpace : (newest : PackageList) → (variables : ℕ) → Refusal → Type 0
-HasNoSpace newest variables refusal =
-    (refusal ≡ NoMemory) ⊎ ((refusal ≡ TooLarge Variables) × HasMoreVariables newest false variables)
+abbrev pub HasNoSpace : (newest : PackageList) → (essential : Bool) → (variables : ℕ) → Refusal → Type 0
+HasNoSpace newest essential variables refusal =
+    (refusal ≡ NoMemory) ⊎ ((refusal ≡ TooLarge Variables) × HasMoreVariables newest essential variables)
 
 -- an archive that is for an architecture has a package
 abbrev pub HasSome : (later : PackageList) → Type 0

@@ -7,13 +7,17 @@ pub mod Command
 pub mod Complete
 pub mod DuePrivate
 pub mod FaultText
+pub mod Follow
+pub mod FollowPrivate
 pub mod Headline
 pub mod Health
+pub mod JournalText
 pub mod LaterPrivate
 pub mod PackagesStage
 pub mod Refusal
 pub mod RepositoryStage
 pub mod Run
+pub mod SpaceStage
 pub mod Stages
 pub mod Status
 pub mod Steps

@@ -6,11 +6,12 @@ use Rattle.dist_outside.specs.declared.trouble.WorkError.{WorkError}
 use Rattle.dist_outside.specs.declared.trouble.WorkError.TheVariants as work
 use Rattle.dist_app.specs.CauseText.{cause_text}
 use Rattle.dist_app.specs.FaultText.{kind_name, carried_text}
+use Rattle.dist_app.specs.JournalText.{journal_fault_text}
 use Rattle.dist_app.specs.declared.status.Status.{Status}
 use Rattle.dist_app.specs.declared.status.Status.TheVariants as status
 use Rattle.dist_app.specs.declared.refusal.Refusal.{Refusal}
 use Rattle.dist_app.specs.declared.refusal.Refusal.TheVariants.{BadWords, BadPackages, CertificateRefused, ReadFault}
-use Rattle.dist_app.specs.declared.refusal.Refusal.TheVariants.{WriteFault, NoMemory, TooLarge, BadList}
+use Rattle.dist_app.specs.declared.refusal.Refusal.TheVariants.{WriteFault, NoMemory, TooLarge, BadList, BadJournal}
 
 -- the status of a run that was given up for this
 abbrev pub status_of : Refusal → Status
@@ -22,6 +23,7 @@ status_of WriteFault = status.WriteFault
 status_of NoMemory = status.NoMemory
 status_of (TooLarge limit) = status.TooLarge
 status_of (BadList line) = status.BadList
+status_of (BadJournal line fault) = status.BadJournal
 
 -- the name of a limit
 abbrev pub limit_text : What → List ℕ
@@ -47,6 +49,8 @@ reason_text WriteFault = codes "write fault"
 reason_text NoMemory = codes "no memory"
 reason_text (TooLarge limit) = codes "too large: " ++ limit_text limit
 reason_text (BadList line) = codes "bad list at line " ++ decimal line
+reason_text (BadJournal line fault) = codes "bad journal at line "
+    ++ (decimal line ++ (codes ": " ++ journal_fault_text fault))
 
 -- the line on `err`
 abbrev pub refusal_text : Refusal → List ℕ

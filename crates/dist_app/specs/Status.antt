@@ -3,7 +3,8 @@ use Rattle.std.specs.Prelude.{ℕ}
 use Rattle.dist_app.specs.declared.status.Status.{Status}
 use Rattle.dist_app.specs.declared.status.Status.TheVariants.{Done, DoneWithUndecided, BadWords, BadPackages}
 use Rattle.dist_app.specs.declared.status.Status.TheVariants.{CertificateRefused, ReadFault, WriteFault, NoMemory}
-use Rattle.dist_app.specs.declared.status.Status.TheVariants.{TooLarge, NotHealthy, BadList, NotAFuture}
+use Rattle.dist_app.specs.declared.status.Status.TheVariants.{TooLarge, NotHealthy, BadList, BadJournal}
+use Rattle.dist_app.specs.declared.status.Status.TheVariants.{NotAFuture}
 
 -- the number of a status
 abbrev pub number_of : Status → ℕ
@@ -18,4 +19,5 @@ number_of NoMemory = 7
 number_of TooLarge = 8
 number_of NotHealthy = 9
 number_of BadList = 10
+number_of BadJournal = 11
 number_of NotAFuture = 12

@@ -1,41 +1,26 @@
 -- What `steps PACKAGES LATER` comes to.
-use Rattle.std.specs.Prelude.{◌≡◌, ◌⊎◌, ℕ, ◌<◌, false, List, Option, Some, length, slice_get}
+use Rattle.std.specs.Prelude.{◌≡◌, ◌⊎◌, ℕ, false, List, Option, Some, slice_get}
 use Rattle.dist_outside.specs.Files.{Files}
 use Rattle.dist_outside.specs.declared.limits.Limits.{Limits}
-use Rattle.dist_outside.specs.declared.trouble.What.TheVariants.{Variables}
 use Rattle.dist_repo.specs.Order.{IsLatestOf}
 use Rattle.dist_repo.specs.PackageList.{PackageList}
 use Rattle.dist_repo.specs.declared.package.Package.{Package}
 use Rattle.dist_space.specs.Space.{SpaceView}
-use Rattle.dist_space.specs.SpaceOf.{IsSpaceOf}
 use Rattle.dist_future.specs.Future.{IsFuture}
-use Rattle.dist_subject.specs.Limited.{OfSpace}
 use Rattle.dist_archive.specs.Reach.{AreTaken, IsFirstMisfit, IsPlan}
 use Rattle.dist_archive.specs.Refusals.{IsOfOtherArchitecture}
 use Rattle.dist_archive.specs.Steps.{IsReached, Lead}
 use Rattle.dist_archive.specs.declared.step.Step.{Step as ArchiveStep}
 use Rattle.dist_history.specs.PlanText.{misfit_text, plan_text}
 use Rattle.dist_app.specs.PackagesStage.{PackagesStage}
-use Rattle.dist_app.specs.Stages.{Ending, Step, Goes, Ends, Then, answered, refused}
-use Rattle.dist_app.specs.declared.refusal.Refusal.TheVariants.{TooLarge}
+use Rattle.dist_app.specs.SpaceStage.{SpaceStage}
+use Rattle.dist_app.specs.Stages.{Ending, Goes, Then, answered}
 use Rattle.dist_app.specs.declared.status.Status.TheVariants.{Done, NotAFuture}
 
 -- the newest versions of a Packages file
 abbrev pub IsNewestIn : Option Files → Limits → (name : List ℕ) → (newest : PackageList) → Type 0
 IsNewestIn files limits name newest =
     (file : PackageList) × PackagesStage files limits name (Goes file) × IsLatestOf file newest
-
--- ---- the space of PACKAGES
-
--- the space of the newest versions of a file at mode plain
-abbrev pub IsSpaceOfFile : PackageList → SpaceView → Type 0
-IsSpaceOfFile r space = IsLatestOf r space.repository × IsSpaceOf space.repository false space
-
--- It keeps its number of variables, or ends the run.
-abbrev pub SpaceStage : Option Files → Limits → PackageList → Step (Unit {0}) → Type 0
-SpaceStage files limits r (Goes _) = ¬ OfSpace r false (λ space. limits.variables < length space.meanings)
-SpaceStage files limits r (Ends ending) = OfSpace r false (λ space. limits.variables < length space.meanings)
-    × (ending ≡ refused files (TooLarge Variables))
 
 -- ---- the later archive
 
@@ -74,22 +59,16 @@ pub record TellsLater (files : Option Files) (space : SpaceView) (l : PackageLis
   pub is_newest : IsLatestOf l later
   pub tells : TellsPlan files space later ending ⊎ TellsMisfit files space later ending
 
--- the same, by the space of PACKAGES
-abbrev pub Compares : Option Files → (r l : PackageList) → Ending → Type 0
-Compares files r l ending = (space : SpaceView) × IsSpaceOfFile r space × TellsLater files space l ending
-
 -- ---- the stages
 
--- PACKAGES is read and taken apart, then the space is made.
-abbrev pub SpaceStages : Option Files → Limits → (packages : List ℕ) → (PackageList → Ending → Type 0) → Ending
-    → Type 0
+-- PACKAGES is read and taken apart, then its space is made at mode plain.
+abbrev pub SpaceStages : Option Files → Limits → (packages : List ℕ) → (SpaceView → Ending → Type 0) → Ending → Type 0
 SpaceStages files limits packages Last =
     Then (PackagesStage files limits packages) (λ r.
-    Then (SpaceStage files limits r) (λ _.
-    Last r))
+    Then (SpaceStage files limits false r) Last)
 
 -- After these LATER is read and taken apart. The first stage that is refused decides.
 abbrev pub StepsStages : Option Files → Limits → (packages later : List ℕ)
-    → (PackageList → PackageList → Ending → Type 0) → Ending → Type 0
-StepsStages files limits packages later Last = SpaceStages files limits packages (λ r.
-    Then (PackagesStage files limits later) (Last r))
+    → (SpaceView → PackageList → Ending → Type 0) → Ending → Type 0
+StepsStages files limits packages later Last = SpaceStages files limits packages (λ space.
+    Then (PackagesStage files limits later) (Last space))

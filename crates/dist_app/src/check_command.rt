@@ -8,11 +8,11 @@ ghost use Rattle.dist_app.specs.DuePrivate.{IsDue};
 ghost use Rattle.dist_app.specs.Run.{IsWithinStated};
 ghost use Rattle.dist_app.specs.Stages.{Then, answered};
 
+use crate::accepting::accept;
 use crate::answer::Answer;
 use crate::claims::report;
 use crate::files::read_repository;
-use crate::refusal::{Refusal, refusal_of};
-use dist_check::{Verdict, check};
+use crate::refusal::Refusal;
 use dist_outside::{Desk, Limits};
 use dist_repo::Repository;
 use dist_words::CertFiles;
@@ -56,14 +56,11 @@ fn judge_certificate<D: Desk>(
         (Reports (D.view desk.old).files repository.now)) (D.view desk.old) (D.view desk.new)) }
     ensures only_reads { OnlyReads (D.view desk.old) (D.view desk.new) }
 {
-    match check(alloc, repository, desk, cert, limits) {
-        Ok(Verdict::Accepted(header, claims)) => {
-            match report(alloc, repository, &header, &claims) {
-                Ok(answer) => Ok(answer),
-                Err(_) => Err(Refusal::NoMemory),
-            }
-        }
-        Ok(Verdict::Refused(fault)) => Err(Refusal::CertificateRefused(fault)),
-        Err(error) => Err(refusal_of(error)),
+    match accept(alloc, desk, repository, cert, limits) {
+        Ok(accepted) => match report(alloc, repository, &accepted.header, &accepted.claims) {
+            Ok(answer) => Ok(answer),
+            Err(_) => Err(Refusal::NoMemory),
+        },
+        Err(refusal) => Err(refusal),
     }
 }

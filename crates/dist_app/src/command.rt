@@ -11,6 +11,7 @@ ghost use Rattle.dist_app.specs.Stages.{answered};
 use crate::answer::Answer;
 use crate::check_command::run_check;
 use crate::classes_command::run_classes;
+use crate::follow_command::run_follow;
 use crate::health_command::run_health;
 use crate::refusal::Refusal;
 use crate::steps_command::run_steps;
@@ -44,5 +45,6 @@ pub(crate) fn run_command<D: Desk>(
         Command::Check(files) => run_check(alloc, desk, files, limits),
         Command::Try(words) => run_try(alloc, words, limits),
         Command::Steps(files) => run_steps(alloc, desk, files, limits),
+        Command::Follow(files) => run_follow(alloc, desk, files, limits),
     }
 }

@@ -4,6 +4,7 @@
 //! commands. The work is that of the crates below. A change of what a command comes to begins in `specs/`.
 #![tactic(auto)]
 
+mod accepting;
 mod answer;
 mod cause_text;
 mod check_command;
@@ -12,13 +13,17 @@ mod classes_command;
 mod command;
 mod fault_text;
 mod files;
+mod follow_command;
+mod followed;
 mod health;
 mod health_command;
+mod journal_text;
 mod later;
 mod laws;
 mod pieces;
 mod refusal;
 mod refusal_text;
+mod spaces;
 mod status;
 mod steps_command;
 mod sweep_command;

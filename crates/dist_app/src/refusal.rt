@@ -4,6 +4,7 @@ ghost use Rattle.dist_app.specs.Refusal.{status_of, refusal_of};
 
 use crate::status::Status;
 use dist_cert::CertFault;
+use dist_journal::JournalFault;
 use dist_outside::{What, WorkError};
 use dist_package::Fault;
 
@@ -18,6 +19,7 @@ pub(crate) enum Refusal {
     NoMemory,
     TooLarge(What),
     BadList(u64),
+    BadJournal(u64, JournalFault),
 }
 
 impl Refusal {
@@ -34,6 +36,7 @@ impl Refusal {
             Refusal::NoMemory => Status::NoMemory,
             Refusal::TooLarge(_) => Status::TooLarge,
             Refusal::BadList(_) => Status::BadList,
+            Refusal::BadJournal(_, _) => Status::BadJournal,
         }
     }
 }

@@ -5,9 +5,11 @@ ghost use Rattle.dist_app.specs.WritesPrivate.{Writes};
 
 use crate::cause_text::cause_text;
 use crate::fault_text::write_kind;
+use crate::journal_text::journal_fault_text;
 use crate::pieces::write_pieces;
 use crate::refusal::Refusal;
 use dist_cert::CertFault;
+use dist_journal::JournalFault;
 use dist_outside::{Sink, What, WorkError, sink_grows, write_whole};
 use dist_package::Fault;
 use itoa::Buffer;
@@ -59,6 +61,27 @@ fn write_cert_fault<E: Sink>(err: &mut E, fault: CertFault) -> Result<(), WorkEr
     )
 }
 
+/// Writes what is wrong with a journal.
+fn write_journal_fault<E: Sink>(
+    err: &mut E,
+    line: u64,
+    fault: JournalFault,
+) -> Result<(), WorkError>
+    ensures { Writes (reason_text (Refusal.BadJournal line fault)) result (E.view err.old) (E.view err.new) }
+{
+    let mut buffer = Buffer::new();
+    let place = buffer.format(line).as_bytes();
+    write_pieces(
+        err,
+        &[
+            b"bad journal at line ",
+            place,
+            b": ",
+            journal_fault_text(fault),
+        ],
+    )
+}
+
 /// Writes what a line says after the program's name.
 fn write_reason<E: Sink>(err: &mut E, refusal: Refusal) -> Result<(), WorkError>
     ensures { Writes (reason_text refusal) result (E.view err.old) (E.view err.new) }
@@ -75,6 +98,7 @@ fn write_reason<E: Sink>(err: &mut E, refusal: Refusal) -> Result<(), WorkError>
             let mut buffer = Buffer::new();
             write_pieces(err, &[b"bad list at line ", buffer.format(line).as_bytes()])
         }
+        Refusal::BadJournal(line, fault) => write_journal_fault(err, line, fault),
     }
 }
 

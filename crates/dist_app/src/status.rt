@@ -16,7 +16,8 @@ pub enum Status {
     TooLarge,
     NotHealthy,
     BadList,
-    NotAFuture = 12,
+    BadJournal,
+    NotAFuture,
 }
 
 impl Status {

@@ -1,25 +1,23 @@
 //! `steps PACKAGES LATER`, stage by stage.
-ghost use Rattle.std.specs.Prelude.{◌≡◌, ◌≤◌, IfErr, IfOk, false};
-ghost use Rattle.dist_base.specs.declared.TheConstants.{MAX_VARIABLES};
+ghost use Rattle.std.specs.Prelude.{IfErr, IfOk};
 ghost use Rattle.dist_outside.specs.DeskView.{OnlyReads};
 ghost use Rattle.dist_outside.specs.Files.{IsNotWriting};
-ghost use Rattle.dist_repo.specs.Order.{IsFlat, IsLatestOf};
 ghost use Rattle.dist_repo.specs.Size.{IsWithinSize};
-ghost use Rattle.dist_space.specs.SpaceOf.{HasMoreVariables, IsSpaceOf};
 ghost use Rattle.dist_app.specs.DuePrivate.{IsDue};
-ghost use Rattle.dist_app.specs.LaterPrivate.{HasNoSpace, IsSpaceKept};
+ghost use Rattle.dist_app.specs.LaterPrivate.{IsSpaceKept};
 ghost use Rattle.dist_app.specs.PackagesStage.{PackagesStage};
 ghost use Rattle.dist_app.specs.Run.{IsWithinStated};
 ghost use Rattle.dist_app.specs.Stages.{Ends, Then, answered};
-ghost use Rattle.dist_app.specs.Steps.{Compares, IsNewestIn, SpaceStages, StepsStages, TellsLater};
+ghost use Rattle.dist_app.specs.Steps.{IsNewestIn, SpaceStages, StepsStages, TellsLater};
 
 use crate::answer::Answer;
 use crate::files::read_repository;
 use crate::later::tell_later;
 use crate::refusal::Refusal;
-use dist_outside::{Desk, Limits, What};
-use dist_repo::{Repository, latest_is_one};
-use dist_space::{Space, SpaceError, space_of};
+use crate::spaces::{newest_of, space_of_file};
+use dist_outside::{Desk, Limits};
+use dist_repo::Repository;
+use dist_space::Space;
 use dist_words::StepsFiles;
 use std::alloc::Global;
 
@@ -33,9 +31,9 @@ pub(crate) fn run_steps<D: Desk>(
     requires not_writing { IsNotWriting (D.view desk.old).mode }
     requires within { IsWithinStated limits.now }
     ensures answers { IfOk result (λ answer. StepsStages (D.view desk.old).files limits.now files.now.packages.now files.now.later.now
-        (Compares (D.view desk.old).files) (answered (D.view desk.old).files answer.status answer.text.items)) }
+        (TellsLater (D.view desk.old).files) (answered (D.view desk.old).files answer.status answer.text.items)) }
     ensures due { IfErr result (IsDue (StepsStages (D.view desk.old).files limits.now files.now.packages.now files.now.later.now
-        (Compares (D.view desk.old).files)) (D.view desk.old) (D.view desk.new)) }
+        (TellsLater (D.view desk.old).files)) (D.view desk.old) (D.view desk.new)) }
     ensures only_reads { OnlyReads (D.view desk.old) (D.view desk.new) }
 {
     match read_space(alloc, desk, files.packages, limits) {
@@ -44,7 +42,7 @@ pub(crate) fn run_steps<D: Desk>(
     }
 }
 
-/// The space of PACKAGES. The file's other versions are given up once it is made.
+/// The space of PACKAGES.
 fn read_space<D: Desk>(
     alloc: Global,
     desk: &mut D,
@@ -54,13 +52,11 @@ fn read_space<D: Desk>(
     requires not_writing { IsNotWriting (D.view desk.old).mode }
     requires within { IsWithinStated limits.now }
     ensures goes { IfOk result (IsSpaceKept (D.view desk.old).files limits.now packages.now) }
-    ensures due { IfErr result (IsDue (SpaceStages (D.view desk.old).files limits.now packages.now (λ r ending. ⊥)) (D.view desk.old) (D.view desk.new)) }
+    ensures due { IfErr result (IsDue (SpaceStages (D.view desk.old).files limits.now packages.now (λ space ending. ⊥)) (D.view desk.old) (D.view desk.new)) }
     ensures only_reads { OnlyReads (D.view desk.old) (D.view desk.new) }
 {
-    // What this call tells is that a file has its newest versions once.
-    latest_is_one();
-    match read_newest(alloc, desk, packages, limits) {
-        Ok(newest) => space_within(alloc, newest, limits.variables),
+    match read_repository(alloc, desk, packages, limits) {
+        Ok(repository) => space_of_file(alloc, repository, false, limits),
         Err(refusal) => Err(refusal),
     }
 }
@@ -82,37 +78,6 @@ fn read_newest<D: Desk>(
     match read_repository(alloc, desk, name, limits) {
         Ok(repository) => newest_of(&repository),
         Err(refusal) => Err(refusal),
-    }
-}
-
-/// The newest versions of a repository.
-fn newest_of(repository: &Repository) -> Result<Repository, Refusal>
-    requires { IsWithinSize repository.now }
-    ensures newest { IfOk result (IsLatestOf repository.now) }
-    ensures within_size { IfOk result (λ newest. IsWithinSize newest) }
-    ensures given_up { IfErr result (λ refusal. refusal ≡ Refusal.NoMemory) }
-{
-    // What this call tells is that they are no more than the repository has.
-    latest_is_one();
-    match repository.latest() {
-        Ok(newest) => Ok(newest),
-        Err(_) => Err(Refusal::NoMemory),
-    }
-}
-
-/// The space of packages, within a number of variables.
-fn space_within(alloc: Global, newest: Repository, variables: u32) -> Result<Space, Refusal>
-    requires flat { IsFlat newest.packages }
-    requires within_size { IsWithinSize newest }
-    requires variables { variables ≤ MAX_VARIABLES }
-    ensures space { IfOk result (λ space. IsSpaceOf newest false space) }
-    ensures kept { IfOk result (λ space. ¬ HasMoreVariables newest false variables) }
-    ensures given_up { IfErr result (HasNoSpace newest variables) }
-{
-    match space_of(alloc, newest, false, variables) {
-        Ok(space) => Ok(space),
-        Err(SpaceError::TooManyVariables) => Err(Refusal::TooLarge(What::Variables)),
-        Err(SpaceError::NoMemory) => Err(Refusal::NoMemory),
     }
 }
 

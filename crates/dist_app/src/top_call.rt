@@ -2,7 +2,7 @@
 ghost use Rattle.std.specs.Prelude.{◌≡◌, ℕ, List, map, string_bytes, MatchResult};
 ghost use Rattle.dist_outside.specs.Files.{IsNotWriting};
 ghost use Rattle.dist_app.specs.Complete.{IsComplete};
-ghost use Rattle.dist_app.specs.Headline.{CheckIsProved, MarksAreTried, StepsAreProved, SweepIsProved, UndecidedAreHard};
+ghost use Rattle.dist_app.specs.Headline.{CheckIsProved, FollowIsProved, MarksAreTried, StepsAreProved, SweepIsProved, UndecidedAreHard};
 ghost use Rattle.dist_app.specs.Run.{IsWithinStated, Leaves, Runs, stated_limits};
 ghost use Rattle.dist_app.specs.CarriedPrivate.{IsAnswered, IsRefused, Prints};
 
@@ -15,11 +15,13 @@ use dist_budget::budgets_are_enough;
 use dist_check::{
     accepted_claims_hold, marks_are_tried, texts_have_one_answer, undecided_questions_are_hard,
 };
+use dist_journal::journals_have_one_end;
 use dist_list::lists_are_exact;
 use dist_now::one_health;
 use dist_outside::{Desk, Limits, Sink, sink_grows, write_whole};
 use dist_package::packages_are_exact;
 use dist_repo::latest_is_one;
+use dist_space::spaces_are_one;
 use dist_subject::first_numbers_are_one;
 use dist_words::{WordsError, command_of};
 use std::alloc::Global;
@@ -42,6 +44,8 @@ pub fn run<D: Desk, W: Sink, E: Sink>(
     ensures check { CheckIsProved (map string_bytes words.now) stated_limits result (D.view desk.old) (D.view desk.new)
         (W.view out.old) (W.view out.new) }
     ensures steps { StepsAreProved (map string_bytes words.now) stated_limits result (D.view desk.old) (D.view desk.new)
+        (W.view out.old) (W.view out.new) }
+    ensures follow { FollowIsProved (map string_bytes words.now) stated_limits result (D.view desk.old) (D.view desk.new)
         (W.view out.old) (W.view out.new) }
     ensures complete { IsComplete (map string_bytes words.now) stated_limits result (D.view desk.old) (D.view desk.new)
         (W.view out.old) (W.view out.new) }
@@ -70,6 +74,8 @@ pub fn run_with<D: Desk, W: Sink, E: Sink>(
         (W.view out.old) (W.view out.new) }
     ensures steps { StepsAreProved (map string_bytes words.now) limits.now result (D.view desk.old) (D.view desk.new)
         (W.view out.old) (W.view out.new) }
+    ensures follow { FollowIsProved (map string_bytes words.now) limits.now result (D.view desk.old) (D.view desk.new)
+        (W.view out.old) (W.view out.new) }
     ensures complete { IsComplete (map string_bytes words.now) limits.now result (D.view desk.old) (D.view desk.new)
         (W.view out.old) (W.view out.new) }
     ensures hard { UndecidedAreHard limits.now }
@@ -82,6 +88,8 @@ pub fn run_with<D: Desk, W: Sink, E: Sink>(
     first_numbers_are_one();
     lists_are_exact();
     latest_is_one();
+    spaces_are_one();
+    journals_have_one_end();
     accepted_claims_hold();
     undecided_questions_are_hard();
     marks_are_tried();

@@ -2,7 +2,7 @@
 use Rattle.std.proofs.Common.{◌≡◌, ◌≢◌, ◌==◌, ℕ, Bool, true, false, not, List, [], ◌∷◌, ◌++◌, codes, refl, ap, sym, ◌∙◌, arith}
 use Rattle.std.specs.List.{All, list_all}
 use Rattle.std.proofs.lemmas.Bool.{false≢true, and_parts}
-use Rattle.std.proofs.lemmas.List.Elements.{All-head, All-tail, All-cons, All-nil, All-append}
+use Rattle.std.proofs.lemmas.List.Elements.{All-head, All-tail, All-map, All-cons, All-nil, All-append}
 use Rattle.dist_base.specs.Ascii.{line_feed}
 use Rattle.dist_cert.specs.declared.records.CertKind.{CertKind}
 use Rattle.dist_cert.specs.declared.records.CertKind.TheVariants as kinds
@@ -10,11 +10,14 @@ use Rattle.dist_cert.specs.declared.records.CertRecord.{CertRecord}
 use Rattle.dist_cert.specs.declared.records.CertRecord.TheVariants.{Question, Derived, Refuted, Installation, Undecided, NotInstallable, Unknown, Strong}
 use Rattle.dist_cert.specs.declared.records.CertRecord.TheVariants.{Outdated, Alive, Challenged, End}
 use Rattle.dist_cert.specs.declared.records.Header.{Header}
-use Rattle.dist_cert.specs.Form.{Word, IsSmall, signed_text, word_text, words_text, plains, letter, words, record_text, HasForm, kind_text, mode_text}
+use Rattle.dist_cert.specs.Form.{Word, IsSmall, signed_text, word_text, words_text, plain, plains, letter, words, record_text, HasForm, kind_text, mode_text}
 use Rattle.dist_cert.specs.Form.{header_text, HasHeaderForm}
 use Rattle.dist_cert.specs.FileLines.{IsOneLine}
 use Rattle.dist_cert.specs.ClearFormsLaws.{FormsAreClear}
-use Rattle.dist_cert.proofs.OneForm.{Digits, digits_of_decimal, header_words_small, one_record, one_header}
+use Rattle.dist_cert.specs.FirstLines.{first_line}
+use Rattle.dist_cert.specs.DecodedPrivate.{numbers}
+use Rattle.dist_cert.proofs.OneForm.{Digits, digits_of_decimal, header_words_small, numbers_of_plains, one_record, one_header}
+use Rattle.dist_cert.proofs.OneForm.{one_list_of_words, tails}
 
 digits_line : (cs : List ℕ) → Digits cs → IsOneLine cs
 digits_line [] all = All-nil (λ byte. byte ≢ line_feed)
@@ -88,5 +91,31 @@ header_line h form = to_line (header_text h)
     (fixed_line (codes "distfuture-certificate 1 ") refl) (kind_line h.kind) (mode_line h.essential)
     (words_line (plains (h.limit ∷ h.packages ∷ h.variables ∷ h.clauses ∷ [])) (header_words_small (header_text h) h form)))
 
+-- ---- first lines of a front and numbers
+
+plains_small : (ns : List ℕ) → All IsSmall ns → All (λ w. IsSmall w.0) (plains ns)
+plains_small ns all = All-map (λ w. IsSmall w.0) plain ns all
+
+behind_front : (front r s : List ℕ) → front ++ r ≡ front ++ s → r ≡ s
+behind_front [] r s e = e
+behind_front (c ∷ front) r s e = behind_front front r s (tails c c (front ++ r) (front ++ s) e)
+
+one_list : (front numbers other : List ℕ) → All IsSmall numbers → All IsSmall other → first_line front numbers ≡ first_line front other → numbers ≡ other
+one_list front ns ms hn hm e =
+    let words = one_list_of_words (plains ns) (plains ms) (plains_small ns hn) (plains_small ms hm)
+    (behind_front front (words_text (plains ns)) (words_text (plains ms)) e) in
+    sym (numbers_of_plains ns) ∙ ap numbers words ∙ numbers_of_plains ms
+
+front_line : (front numbers : List ℕ) → IsOneLine front → All IsSmall numbers → IsOneLine (first_line front numbers)
+front_line front ns one all =
+    All-append (λ byte. byte ≢ line_feed) front (words_text (plains ns)) one (words_line (plains ns) (plains_small ns all))
+
 pub clear : FormsAreClear
-clear = record { one_header = one_header; one_record = one_record; header_line = header_line; record_line = record_line }
+clear = record {
+  one_header = one_header;
+  one_record = one_record;
+  header_line = header_line;
+  record_line = record_line;
+  one_list = one_list;
+  front_line = front_line;
+}

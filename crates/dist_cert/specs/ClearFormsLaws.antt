@@ -1,21 +1,27 @@
 -- That the forms of lines can be told apart.
-use Rattle.std.specs.Prelude.{◌≡◌, ℕ, List}
+use Rattle.std.specs.Prelude.{◌≡◌, ℕ, List, All}
 use Rattle.dist_cert.specs.declared.faults.CertCause.{CertCause}
 use Rattle.dist_cert.specs.declared.faults.CertCause.TheVariants as causes
 use Rattle.dist_cert.specs.declared.records.CertRecord.{CertRecord}
 use Rattle.dist_cert.specs.declared.records.Header.{Header}
 use Rattle.dist_cert.specs.FileLines.{Rules, IsOneLine}
-use Rattle.dist_cert.specs.Form.{record_text, HasForm, header_text, HasHeaderForm}
+use Rattle.dist_cert.specs.FirstLines.{first_line}
+use Rattle.dist_cert.specs.Form.{IsSmall, record_text, HasForm, header_text, HasHeaderForm}
 use Rattle.dist_cert.specs.LineRules.{HasRecordFault}
 use Rattle.dist_cert.specs.Refusal.{certificate_rules}
 use Rattle.dist_cert.specs.Subject.{Matter}
 
--- A line has at most one form, and the text of a form has no line feed. The law `forms_are_clear` says that it is so.
+-- A line has at most one form, and the text of a form has no line feed. So it is of first lines that are a front and
+-- numbers. The law `forms_are_clear` says that it is so.
 pub record FormsAreClear : Type 0 where
   pub one_header : (line : List ℕ) (h other : Header) → HasHeaderForm line h → HasHeaderForm line other → h ≡ other
   pub one_record : (line : List ℕ) (step other : CertRecord) → HasForm line step → HasForm line other → step ≡ other
   pub header_line : (h : Header) → HasHeaderForm (header_text h) h → IsOneLine (header_text h)
   pub record_line : (step : CertRecord) → HasForm (record_text step) step → IsOneLine (record_text step)
+  pub one_list : (front numbers other : List ℕ) → All IsSmall numbers → All IsSmall other
+      → first_line front numbers ≡ first_line front other → numbers ≡ other
+  pub front_line : (front numbers : List ℕ) → IsOneLine front → All IsSmall numbers
+      → IsOneLine (first_line front numbers)
 
 -- The same of the lines behind a first line.
 pub record RecordsAreClear : Type 0 where

@@ -26,22 +26,11 @@ use Rattle.dist_judge.specs.ReadingLaws as reading
 use Rattle.dist_subject.specs.Basis.{matter_of}
 use Rattle.dist_subject.specs.Certificates.{certificates_of}
 use Rattle.dist_subject.specs.Completed.{IsCompleted}
+use Rattle.dist_check_state.specs.LinesAtLaws.{lines-kept}
 use Rattle.dist_check_state.specs.State.{StateView, Tells, StopsAt, LineStops, TakesLine}
 use Rattle.dist_check.specs.CheckedPrivate.{IsChecked}
 use Rattle.dist_check.proofs.ClearKind.{clear-kind}
 use Rattle.dist_check.proofs.Next.{becomes-at, told-verdict}
-
--- the derived lines that are kept are within the numbers
-pub lines-kept : (inputs : List (List Literal)) (steps : List CertRecord) (log : ClauseLog) (lines literals : ℕ) → log.clauses ≡ inputs ++ derived steps
-    → log.inputs ≡ length inputs → log.line_limit ≡ lines → log.line_literal_limit ≡ literals → IsWithinLineLimits log
-    → (length (derived steps) ≤ lines) × (literal_count (derived steps) ≤ literals) × (lines_of log ≡ derived steps)
-lines-kept inputs steps log lines literals clauses count line_limit literal_limit within =
-    let are : lines_of log ≡ derived steps = ap (λ (n : ℕ). drop n log.clauses) count ∙ ap (λ (cs : List (List Literal)). drop (length inputs) cs) clauses
-    ∙ drop_at inputs (derived steps) (length inputs) refl in (
-      omega (arith, within.lines_within, line_limit, ap (λ (cs : List (List Literal)). length cs) are),
-      omega (arith, within.literals_within, literal_limit, ap literal_count are),
-      are,
-    )
 
 -- how many installations there may be
 few-installations : (lines : List CertRecord) → length (installations lines) ≤ length lines

@@ -25,11 +25,11 @@ use Rattle.dist_cert.specs.Form.{header_text}
 use Rattle.dist_cert.specs.Reading.{ReaderView, WhereTold, PassesWhole, KeepsLimits, IsHeaderNext, HeaderAnswers, HeaderCause, HeaderFault, GivesHeader}
 use Rattle.dist_cert.specs.Reading.{HeaderOfSome, RecordCause}
 use Rattle.dist_cert.specs.FileLines.{AreRight}
+use Rattle.dist_judge.specs.Causes.{TextCause}
 use Rattle.dist_judge.specs.FileKind.{rules_of}
 use Rattle.dist_judge.specs.HeadingLaws.{IsHeadingFault, heading_refused, heading_unfit, starts_faultless}
 use Rattle.dist_judge.specs.Judging.{HasLargeInputs, OfText, StopsFirst, StopsWith}
 use Rattle.dist_judge.specs.ReadingLaws.{TextAt, from_text, new_reader, rose_from, starts_read}
-use Rattle.dist_check.specs.Checking.{TextCause}
 use Rattle.dist_subject.specs.Basis.{Today, matter_of}
 use Rattle.dist_subject.specs.Certificates.{certificates_of}
 use Rattle.dist_subject.specs.Limited.{PassesFirst, PassesLater, PassesPresent}

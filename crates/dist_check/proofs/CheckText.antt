@@ -9,13 +9,14 @@ use Rattle.dist_cert.specs.declared.faults.ReadCertError.{ReadCertError}
 use Rattle.dist_cert.specs.declared.faults.ReadCertError.TheVariants.{Bad, Work}
 use Rattle.dist_cert.specs.declared.records.Claim.{Claim}
 use Rattle.dist_cert.specs.declared.records.Header.{Header}
+use Rattle.dist_judge.specs.Causes.{TextCause}
 use Rattle.dist_judge.specs.Judging.{OfText, StopsWith}
 use Rattle.dist_judge.specs.ReadingLaws.{rose_from}
 use Rattle.dist_subject.specs.Basis.{IsAccepted}
 use Rattle.dist_subject.specs.Certificates.{certificates_of}
 use Rattle.dist_subject.specs.Completed.{IsCompleted}
 use Rattle.dist_check.specs.Answers.{AcceptedMeans}
-use Rattle.dist_check.specs.Checking.{TextAnswers, TextCause}
+use Rattle.dist_check.specs.Checking.{TextAnswers}
 use Rattle.dist_check.specs.Means.{Means}
 use Rattle.dist_check.specs.Start.{IsStart}
 use Rattle.dist_check_state.specs.State.{StateView}
@@ -33,16 +34,6 @@ pub completed-alike : {X : Type 0} (header : X → Header) (claims : X → List 
 completed-alike header claims r limits None h made of h_is made_is done = tt
 completed-alike header claims r limits (Some text) h made of h_is made_is done =
     subst (λ m. IsCompleted r limits text (header of) m) (sym made_is) (subst (λ x. IsCompleted r limits text x made) (sym h_is) done)
-
--- a cause behind what was read before
-pub later-cause : (entry old new : DeskView) (error : ReadCertError) → OnlyReads entry old → OnlyReads old new → TextCause old new error
-    → TextCause entry new error
-later-cause entry old new (Bad fault) first second cause = tt
-later-cause entry old new (Work ReadFault) first second cause =
-    rose_from entry.read_faults old.read_faults new.read_faults first.read_faults_stand second.read_faults_stand cause
-later-cause entry old new (Work WriteFault) first second cause = cause
-later-cause entry old new (Work NoMemory) first second cause = tt
-later-cause entry old new (Work (TooLarge what)) first second cause = cause
 
 -- what an accepted text proves, by the law of accepted texts
 pub accepted-means : ((r : PackageList) (limits : Limits) (text : List ℕ) (h : Header) (made : List Claim) → IsInOrder r.packages

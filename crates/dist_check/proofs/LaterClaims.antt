@@ -46,10 +46,10 @@ use Rattle.dist_subject.specs.Present.{truth_of}
 use Rattle.dist_subject.specs.TruthLaws.{truth-length}
 use Rattle.dist_check.specs.Means.{IsPairBeside, SaysChallenged, SaysOutdated, TellsPairs}
 use Rattle.dist_judge.specs.LineLaws.{HaveForms}
-use Rattle.dist_check.specs.CheckedPrivate.{AreRight}
-use Rattle.dist_check.proofs.Told.{IsTold, stable, less-told, any-told, number-told, model-told}
+use Rattle.dist_check_state.specs.LinesAt.{AreRight}
+use Rattle.dist_check_state.specs.ToldLaws.{IsTold, stable, less-told, any-told, number-told, model-told}
 use Rattle.dist_check.proofs.Places.{contains-map}
-use Rattle.dist_check.proofs.LineLemmas.{IsSoundRule, refuted-true}
+use Rattle.dist_check_state.specs.ModelLaws.{IsSoundRule, refuted-true}
 use Rattle.dist_check.proofs.GroupLemmas.{group-behind, installation-healthy, line-of, recent-there}
 use Rattle.dist_check.proofs.Counts.{next-claim}
 use Rattle.dist_check.proofs.Claims.{named-told}

@@ -1,7 +1,5 @@
-mod Told
 mod Places
 mod ClearKind
-mod LineLemmas
 mod GroupLemmas
 mod MemberLemmas
 mod Counts

@@ -32,8 +32,10 @@ use Rattle.dist_check.proofs.ClosingVerdicts.{end-verdict, installable-verdict, 
 use Rattle.dist_check.proofs.ChallengedVerdict.{challenged-verdict}
 use Rattle.dist_cert.specs.GroupLaws.{IsOpening, opened, none-open, none-first}
 use Rattle.dist_judge.specs.LineLaws.{HaveForms}
-use Rattle.dist_check.specs.CheckedPrivate.{AreInputsOf, AreRight}
-use Rattle.dist_check.proofs.Steps.{derived-push, derived-same, installed-push, installed-same, latest-push, question-stays, group-first, group-same}
+use Rattle.dist_check_state.specs.LinesAt.{AreRight}
+use Rattle.dist_check.specs.CheckedPrivate.{AreInputsOf}
+use Rattle.dist_check_state.specs.LinesAtLaws.{derived-push, derived-same, question-stays}
+use Rattle.dist_check.proofs.Steps.{installed-push, installed-same, latest-push, group-first, group-same}
 use Rattle.dist_check.proofs.Steps.{group-installed, group-refuted, group-undecided, group-after_claim}
 use Rattle.dist_check.proofs.StrongVerdicts.{strong-verdict}
 use Rattle.dist_check_state.specs.VerdictLaws.{IsVerdict, question-verdict, derived-verdict, refuted-verdict, installation-verdict, undecided-verdict}

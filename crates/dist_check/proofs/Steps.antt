@@ -33,20 +33,11 @@ use Rattle.dist_cert.specs.GroupLaws.{group-claim, asked-in-group}
 
 -- ---- lists that grow with the lines
 
-pub derived-push : (before : List CertRecord) (step : CertRecord) → derived (before ++ step ∷ []) ≡ derived before ++ derived_in step
-derived-push before step = flat_map-append derived_in before (step ∷ [])
-    ∙ ap (λ (cs : List (List Literal)). derived before ++ cs) (append-nil (derived_in step))
-
 pub installed-push : (before : List CertRecord) (step : CertRecord) → installations (before ++ step ∷ []) ≡ installations before ++ installed_in step
 installed-push before step = flat_map-append installed_in before (step ∷ [])
     ∙ ap (λ (ms : List (List ℕ)). installations before ++ ms) (append-nil (installed_in step))
 
--- nothing derived, and nothing installed
-pub derived-same : (inputs : List (List Literal)) (before : List CertRecord) (step : CertRecord) → derived_in step ≡ []
-    → inputs ++ derived before ≡ inputs ++ derived (before ++ step ∷ [])
-derived-same inputs before step none = ap (λ (cs : List (List Literal)). inputs ++ cs)
-    (sym (derived-push before step ∙ ap (λ (cs : List (List Literal)). derived before ++ cs) none ∙ append-nil (derived before)))
-
+-- nothing installed
 pub installed-same : (before : List CertRecord) (step : CertRecord) → installed_in step ≡ [] → installations before ≡ installations (before ++ step ∷ [])
 installed-same before step none = sym (installed-push before step ∙ ap (λ (ms : List (List ℕ)). installations before ++ ms) none
     ∙ append-nil (installations before))
@@ -62,15 +53,6 @@ latest-push all members =
     ap (λ (xs : List (List ℕ)). drop (length (latest all ++ members ∷ []) - REACH) xs) (sym front)
     ∙ drop-drop (length (latest all ++ members ∷ []) - REACH) (length all - REACH) (all ++ members ∷ [])
     ∙ ap (λ (n : ℕ). drop n (all ++ members ∷ [])) (omega (arith, few))
-
--- ---- the open question
-
-pub question-stays : (inputs : List (List Literal)) (before : List CertRecord) (step : CertRecord) → leaves_open step ≡ true → ¬ IsOpening step
-    → (question : Option QuestionView) → IsQuestionOf inputs before question
-    → IsQuestionOf inputs (before ++ step ∷ []) question
-question-stays inputs before step leaves never None none = none-still before step never none
-question-stays inputs before step leaves never (Some q) here =
-    (here.0, here.1 ++ step ∷ [], still-open before step here.0 q.assumptions here.1 leaves here.2, here.3)
 
 -- ---- closed questions
 

@@ -43,13 +43,6 @@ abbrev pub VerdictMeans : PackageList → Verdict → Type 0
 VerdictMeans r (Accepted h made) = AcceptedMeans r h made
 VerdictMeans r (Refused fault) = Unit {0}
 
--- what holds of each answer but a fault of reading and want of memory
-abbrev pub OnceRead : Result Verdict WorkError → Type 0 → Type 0
-OnceRead (Ok verdict) Holds = Holds
-OnceRead (Err ReadFault) Holds = Unit {0}
-OnceRead (Err NoMemory) Holds = Unit {0}
-OnceRead (Err error) Holds = Holds
-
 -- the text has this verdict over the repository
 abbrev pub IsVerdict : PackageList → Limits → List ℕ → Verdict → Type 0
 IsVerdict r limits text (Accepted h made) = IsAccepted r limits text h made

@@ -1,13 +1,11 @@
 -- What holds at each line of a text that is checked.
-use Rattle.std.specs.Prelude.{◌≡◌, ℕ, List, ◌∷◌, ◌++◌, Option, All}
+use Rattle.std.specs.Prelude.{◌≡◌, ℕ, List, Option, All}
 use Rattle.dist_outside.specs.declared.limits.Limits.{Limits}
 use Rattle.dist_clause.specs.Formula.{IsClauseOver}
 use Rattle.dist_derive.specs.ClauseLog.{IsWithinLineLimits}
 use Rattle.dist_repo.specs.PackageList.{PackageList}
-use Rattle.dist_cert.specs.declared.faults.CertCause.{CertCause}
 use Rattle.dist_cert.specs.declared.records.CertRecord.{CertRecord}
 use Rattle.dist_cert.specs.declared.records.Header.{Header}
-use Rattle.dist_cert.specs.LineRules.{HasRecordFault}
 use Rattle.dist_cert.specs.Reading.{ReaderView}
 use Rattle.dist_cert.specs.Subject.{Matter}
 use Rattle.dist_judge.specs.ReadingLaws.{IsRead}
@@ -16,12 +14,6 @@ use Rattle.dist_subject.specs.Basis.{Basis, matter_of}
 use Rattle.dist_subject.specs.Certificates.{certificates_of}
 use Rattle.dist_subject.specs.Installed.{AreModelsHealthy}
 use Rattle.dist_check_state.specs.State.{StateView}
-
--- no record has a fault behind those before it
-abbrev pub AreRight : Matter → Header → List CertRecord → Type 0
-AreRight matter h steps = (before : List CertRecord) (step : CertRecord) (after : List CertRecord)
-    → steps ≡ before ++ step ∷ after
-    → (cause : CertCause) → ¬ HasRecordFault matter h before step cause
 
 -- The input clauses are over the variables, and their models stand for the healthy installations of futures.
 pub record AreInputsOf (matter : Matter) : Type 0 where

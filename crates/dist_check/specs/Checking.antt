@@ -1,15 +1,12 @@
 -- What a checker answers, of a text that is told.
 use Rattle.std.specs.Prelude.{ℕ, Bool, List, Result, Ok, Err}
-use Rattle.dist_outside.specs.Counts.{Rose}
-use Rattle.dist_outside.specs.DeskView.{DeskView}
 use Rattle.dist_outside.specs.declared.limits.Limits.{Limits}
 use Rattle.dist_outside.specs.declared.trouble.What.{What}
-use Rattle.dist_outside.specs.declared.trouble.What.TheVariants.{Variables, Clauses, Literals, Lines, LineLiterals}
-use Rattle.dist_outside.specs.declared.trouble.What.TheVariants.{Certificate}
-use Rattle.dist_outside.specs.declared.trouble.WorkError.TheVariants.{ReadFault, TooLarge, NoMemory}
+use Rattle.dist_outside.specs.declared.trouble.What.TheVariants.{Variables, Clauses, Literals}
+use Rattle.dist_outside.specs.declared.trouble.WorkError.TheVariants.{TooLarge}
 use Rattle.dist_repo.specs.PackageList.{PackageList}
 use Rattle.dist_cert.specs.declared.faults.ReadCertError.{ReadCertError}
-use Rattle.dist_cert.specs.declared.faults.ReadCertError.TheVariants.{Bad, Work}
+use Rattle.dist_cert.specs.declared.faults.ReadCertError.TheVariants.{Work}
 use Rattle.dist_cert.specs.declared.records.CertKind.{CertKind}
 use Rattle.dist_cert.specs.declared.records.Claim.{Claim}
 use Rattle.dist_cert.specs.declared.records.Header.{Header}
@@ -23,19 +20,6 @@ abbrev pub TextAnswers : {X : Type 0} → (X → Header) → (X → List Claim) 
     → Result X ReadCertError → Type 0
 TextAnswers header claims r limits text (Ok done) = IsCompleted r limits text (header done) (claims done)
 TextAnswers header claims r limits text (Err error) = StopsWith (certificates_of r) limits text error
-
--- Whatever the desk tells, it failed where it is said to have failed, and no other error of work than these comes.
-abbrev pub TextCause : DeskView → DeskView → ReadCertError → Type 0
-TextCause old new (Bad fault) = Unit {0}
-TextCause old new (Work ReadFault) = Rose old.read_faults new.read_faults
-TextCause old new (Work NoMemory) = Unit {0}
-TextCause old new (Work (TooLarge Variables)) = Unit {0}
-TextCause old new (Work (TooLarge Clauses)) = Unit {0}
-TextCause old new (Work (TooLarge Literals)) = Unit {0}
-TextCause old new (Work (TooLarge Lines)) = Unit {0}
-TextCause old new (Work (TooLarge LineLiterals)) = Unit {0}
-TextCause old new (Work (TooLarge Certificate)) = Unit {0}
-TextCause old new (Work error) = ⊥
 
 -- at some kind and mode, what certificates are judged by passes this number first
 abbrev pub PassesSome : PackageList → Limits → What → Type 0

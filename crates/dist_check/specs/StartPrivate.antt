@@ -9,7 +9,8 @@ use Rattle.dist_cert.specs.declared.faults.ReadCertError.TheVariants.{Work}
 use Rattle.dist_cert.specs.declared.records.CertKind.{CertKind}
 use Rattle.dist_cert.specs.declared.records.Header.{Header}
 use Rattle.dist_subject.specs.Basis.{Basis, matter_of}
-use Rattle.dist_subject.specs.Inputs.{AreInputsOf, IsLarge}
+use Rattle.dist_judge.specs.Causes.{IsLarge}
+use Rattle.dist_subject.specs.Inputs.{AreInputsOf}
 use Rattle.dist_check_state.specs.LinesAt.{AreFuturesBy}
 use Rattle.dist_check.specs.LaysOut.{LaysOut}
 use Rattle.dist_check_group.specs.Layout.{LayoutView}

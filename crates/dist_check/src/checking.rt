@@ -7,7 +7,8 @@ ghost use Rattle.dist_repo.specs.Size.{IsWithinSize};
 ghost use Rattle.dist_cert.specs.Reading.{text_left};
 ghost use Rattle.dist_check.specs.Answers.{AcceptedMeans};
 ghost use Rattle.dist_check.specs.CheckedPrivate.{IsChecked};
-ghost use Rattle.dist_check.specs.Checking.{LargeCause, TextAnswers, TextCause};
+ghost use Rattle.dist_check.specs.Checking.{LargeCause, TextAnswers};
+ghost use Rattle.dist_judge.specs.Causes.{TextCause};
 ghost use Rattle.dist_judge.specs.Judging.{OfText};
 ghost use Rattle.dist_subject.specs.Limited.{AreStated};
 

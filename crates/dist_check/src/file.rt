@@ -3,8 +3,9 @@ ghost use Rattle.std.specs.Prelude.{IfErr, IfOk, List, ℕ};
 ghost use Rattle.dist_outside.specs.DeskView.{OnlyReads};
 ghost use Rattle.dist_outside.specs.Files.{IsNotWriting, IsPresent, file_bytes};
 ghost use Rattle.dist_repo.specs.Size.{IsWithinSize};
-ghost use Rattle.dist_check.specs.Answers.{Answers, OnceRead, VerdictMeans};
-ghost use Rattle.dist_check.specs.Checking.{LargeCause, TextCause};
+ghost use Rattle.dist_check.specs.Answers.{Answers, VerdictMeans};
+ghost use Rattle.dist_check.specs.Checking.{LargeCause};
+ghost use Rattle.dist_judge.specs.Causes.{OnceRead, TextCause};
 ghost use Rattle.dist_judge.specs.Judging.{OfText};
 ghost use Rattle.dist_subject.specs.Limited.{AreStated};
 

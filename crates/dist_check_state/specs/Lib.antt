@@ -4,3 +4,6 @@ pub mod State
 pub mod LinesAt
 pub mod FirstFaultLaws
 pub mod VerdictLaws
+pub mod ToldLaws
+pub mod ModelLaws
+pub mod LinesAtLaws

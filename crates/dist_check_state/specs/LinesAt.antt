@@ -1,14 +1,23 @@
 -- How the clauses and the open question that are kept of the lines before a line stand to these lines.
-use Rattle.std.specs.Prelude.{◌≡◌, ◌↔◌, ℕ, List, ◌++◌, Option, Some, None, length}
+use Rattle.std.specs.Prelude.{◌≡◌, ◌↔◌, ℕ, List, ◌∷◌, ◌++◌, Option, Some, None, length}
 use Rattle.dist_clause.specs.Formula.{Literal, IsModel}
 use Rattle.dist_derive.specs.ClauseLog.{ClauseLog}
+use Rattle.dist_cert.specs.declared.faults.CertCause.{CertCause}
 use Rattle.dist_cert.specs.declared.records.CertRecord.{CertRecord}
+use Rattle.dist_cert.specs.declared.records.Header.{Header}
 use Rattle.dist_cert.specs.Groups.{derived, IsOpen, HasOpenQuestion}
+use Rattle.dist_cert.specs.LineRules.{HasRecordFault}
 use Rattle.dist_cert.specs.Rising.{is_among}
 use Rattle.dist_cert.specs.Subject.{Matter}
 use Rattle.dist_check_state.specs.Future.{StandsForFuture}
 use Rattle.dist_check_state.specs.State.{QuestionView}
 use Rattle.dist_check_state.specs.declared.future.FutureClauses.{FutureClauses}
+
+-- no record has a fault behind those before it
+abbrev pub AreRight : Matter → Header → List CertRecord → Type 0
+AreRight matter h steps = (before : List CertRecord) (step : CertRecord) (after : List CertRecord)
+    → steps ≡ before ++ step ∷ after
+    → (cause : CertCause) → ¬ HasRecordFault matter h before step cause
 
 -- the open question, with the clauses before its line
 abbrev pub IsQuestionOf : List (List Literal) → List CertRecord → Option QuestionView → Type 0

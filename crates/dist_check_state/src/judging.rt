@@ -14,7 +14,7 @@ use dist_derive::Log;
 use std::alloc::AllocError;
 
 /// Of the line of a question.
-pub(crate) fn judge_question(log: &Log, literals: &[(u32, bool)]) -> Option<CertCause>
+pub fn judge_question(log: &Log, literals: &[(u32, bool)]) -> Option<CertCause>
     ensures { TellsQuestion log.now.variables literals.now result }
 {
     if is_any_variable_above(literals, log.variables()) {
@@ -24,7 +24,7 @@ pub(crate) fn judge_question(log: &Log, literals: &[(u32, bool)]) -> Option<Cert
 }
 
 /// Of a derived line.
-pub(crate) fn judge_derived(
+pub fn judge_derived(
     log: &Log,
     tools: &mut Tools,
     literals: &[(u32, bool)],
@@ -70,7 +70,7 @@ fn judge_refutation(
 }
 
 /// Of a line that refutes the question that is open, if there is one.
-pub(crate) fn judge_refuted(
+pub fn judge_refuted(
     log: &Log,
     tools: &mut Tools,
     question: &Option<Question>,
@@ -88,7 +88,7 @@ pub(crate) fn judge_refuted(
 }
 
 /// Of the line of an installation.
-pub(crate) fn judge_installation(
+pub fn judge_installation(
     log: &Log,
     tools: &mut Tools,
     future: FutureClauses,
@@ -113,15 +113,16 @@ pub(crate) fn judge_installation(
 
 /// Of the line that closes the open question as undecided.
 fn judge_surrender(
-    log: &Log,
+    log: &mut Log,
     tools: &mut Tools,
     limit: u32,
     question: &Question,
 ) -> Result<Option<CertCause>, AllocError>
-    requires question { AreLiteralsOver log.now.variables question.now.assumptions }
-    requires last { question.now.last ≤ length log.now.clauses }
-    requires tools { tools.old ≡ log.now.variables }
-    ensures told { IfOk result (TellsUndecided log.now limit (Some question.now)) }
+    requires question { AreLiteralsOver log.old.variables question.now.assumptions }
+    requires last { question.now.last ≤ length log.old.clauses }
+    requires tools { tools.old ≡ log.old.variables }
+    ensures told { IfOk result (TellsUndecided log.old limit (Some question.now)) }
+    ensures same { log.new ≡ log.old }
     ensures ready { tools.new ≡ tools.old }
 {
     if log.len() - question.last() < limit {
@@ -134,16 +135,17 @@ fn judge_surrender(
 }
 
 /// Of a line that closes the question that is open, if there is one, as undecided.
-pub(crate) fn judge_undecided(
-    log: &Log,
+pub fn judge_undecided(
+    log: &mut Log,
     tools: &mut Tools,
     limit: u32,
     question: &Option<Question>,
 ) -> Result<Option<CertCause>, AllocError>
-    requires question { ForSome question.now (λ q. AreLiteralsOver log.now.variables q.assumptions) }
-    requires last { ForSome question.now (λ q. q.last ≤ length log.now.clauses) }
-    requires tools { tools.old ≡ log.now.variables }
-    ensures told { IfOk result (TellsUndecided log.now limit question.now) }
+    requires question { ForSome question.now (λ q. AreLiteralsOver log.old.variables q.assumptions) }
+    requires last { ForSome question.now (λ q. q.last ≤ length log.old.clauses) }
+    requires tools { tools.old ≡ log.old.variables }
+    ensures told { IfOk result (TellsUndecided log.old limit question.now) }
+    ensures same { log.new ≡ log.old }
     ensures ready { tools.new ≡ tools.old }
 {
     match question {

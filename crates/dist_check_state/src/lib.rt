@@ -17,6 +17,10 @@ mod state;
 mod tools;
 
 pub use future::FutureClauses;
+pub use judging::{
+    judge_derived, judge_installation, judge_question, judge_refuted, judge_undecided,
+};
 pub use lines::take_line;
+pub use question::Question;
 pub use state::State;
 pub use tools::Tools;

@@ -7,7 +7,7 @@ use std::marker::Model;
 
 /// A question that is open.
 #[derive(Debug, Drop)]
-pub(crate) struct Question {
+pub struct Question {
     assumptions: Literals,
     /// The number of the last clause before its line.
     last: u32,
@@ -23,23 +23,30 @@ impl Model for Question {
 
 impl Question {
     /// A question with these assumptions, behind the clause of this number.
-    pub(crate) fn new(assumptions: Literals, last: u32) -> Question
+    pub fn new(assumptions: Literals, last: u32) -> Question
         ensures { result ≡ record { assumptions = assumptions; last = last } }
     {
         Question { assumptions, last }
     }
 
     /// What is assumed.
-    pub(crate) fn assumptions(&self) -> &[(u32, bool)]
+    pub fn assumptions(&self) -> &[(u32, bool)]
         ensures { result.now ≡ self.now.assumptions }
     {
         self.assumptions.as_slice()
     }
 
     /// The number of the last clause before its line.
-    pub(crate) fn last(&self) -> u32
+    pub fn last(&self) -> u32
         ensures { result ≡ self.now.last }
     {
         self.last
+    }
+
+    /// What was assumed.
+    pub fn into_assumptions(self) -> Literals
+        ensures { result ≡ self.assumptions }
+    {
+        self.assumptions
     }
 }

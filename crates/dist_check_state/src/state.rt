@@ -125,14 +125,15 @@ impl State {
 
     /// The first fault of a line, if there is one.
     pub(crate) fn judge(
-        &self,
+        &mut self,
         alloc: Global,
         tools: &mut Tools,
         step: &CertRecord,
     ) -> Result<Option<CertCause>, AllocError>
         requires form { KeepsRules step.now }
-        requires tools { tools.old ≡ self.now.log.variables }
-        ensures told { IfOk result (Tells self.now step.now) }
+        requires tools { tools.old ≡ self.old.log.variables }
+        ensures told { IfOk result (Tells self.old step.now) }
+        ensures same { self.new ≡ self.old }
         ensures ready { tools.new ≡ tools.old }
     {
         match step {
@@ -150,7 +151,7 @@ impl State {
                 variables.as_slice(),
             )),
             CertRecord::Undecided => {
-                judge_undecided(&self.log, tools, self.limit, &self.question)
+                judge_undecided(&mut self.log, tools, self.limit, &self.question)
             }
             CertRecord::NotInstallable(package) => {
                 Ok(self.judge_claim(*package, self.holds_uninstallable()))
@@ -317,7 +318,6 @@ impl State {
         requires { AreLiteralsOver self.old.log.variables assumptions }
         ensures { self.new ≡ record self.old { question = Some (record { assumptions = assumptions; last = length self.old.log.clauses }) } }
     {
-        self.log.settle();
         self.question = Some(Question::new(assumptions, self.log.len()));
     }
 

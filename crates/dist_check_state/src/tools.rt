@@ -90,14 +90,15 @@ impl Tools {
     /// Whether each clause behind the one of a number was new under the assumptions when it came.
     pub(crate) fn are_new(
         &mut self,
-        log: &Log,
+        log: &mut Log,
         assumptions: &[(u32, bool)],
         last: u32,
     ) -> Result<bool, AllocError>
-        requires assumptions { AreLiteralsOver log.now.variables assumptions.now }
-        requires last { last ≤ length log.now.clauses }
-        requires ready { self.old ≡ log.now.variables }
-        ensures answer { IfOk result (λ yes. IsTrue yes ↔ AreNewFrom log.now.clauses log.now.inputs (clause_of assumptions.now) last) }
+        requires assumptions { AreLiteralsOver log.old.variables assumptions.now }
+        requires last { last ≤ length log.old.clauses }
+        requires ready { self.old ≡ log.old.variables }
+        ensures answer { IfOk result (λ yes. IsTrue yes ↔ AreNewFrom log.old.clauses log.old.inputs (clause_of assumptions.now) last) }
+        ensures same { log.new ≡ log.old }
         ensures ready { self.new ≡ self.old }
     {
         let _stated = log.variables();
@@ -133,11 +134,7 @@ impl Tools {
     }
 
     /// Adds the clause of some literals to the log.
-    pub(crate) fn append(
-        &mut self,
-        log: &mut Log,
-        literals: &[(u32, bool)],
-    ) -> Result<(), WorkError>
+    pub fn append(&mut self, log: &mut Log, literals: &[(u32, bool)]) -> Result<(), WorkError>
         requires { AreLiteralsOver log.old.variables literals.now }
         ensures ok { OnOk result (log.new ≡ record log.old { clauses = log.old.clauses ++ clause_of literals.now ∷ [] }) }
         ensures err { IfErr result (IsAppendCause log.old (clause_of literals.now)) }

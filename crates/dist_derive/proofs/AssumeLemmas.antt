@@ -1,5 +1,6 @@
 -- Lists that contain others, and clauses under more true literals.
-use Rattle.std.proofs.Common.{◌≢◌, List, [], ◌∷◌, ◌++◌}
+use Rattle.std.proofs.Common.{◌≡◌, ◌≢◌, ◌≤◌, List, [], ◌∷◌, ◌++◌, length, take, ap, sym, ◌∙◌, arith}
+use Rattle.std.proofs.lemmas.List.{take_all, take-take, take-append-le}
 use Rattle.std.specs.List.{Contains}
 use Rattle.std.proofs.lemmas.List.Elements.{All-weaker, All-contains, All-contains_itself, Contains-append_left}
 use Rattle.dist_clause.specs.Formula.{Literal, negation}
@@ -22,3 +23,13 @@ AllFalse-more trues more clause kept all = All-weaker (IsFalse trues) (IsFalse m
 pub OthersFalse-more : (trues more clause : List Literal) (l : Literal) → ContainsAll more trues → OthersFalse trues clause l → OthersFalse more clause l
 OthersFalse-more trues more clause l kept others = All-weaker (λ m. m ≢ l → IsFalse trues m) (λ m. m ≢ l → IsFalse more m)
     (λ m h other. All-contains (Contains more) trues (negation m) kept (h other)) clause others
+
+-- lists that begin with others
+pub take-all : {X : Type 0} (xs : List X) → take (length xs) xs ≡ xs
+take-all xs = take_all (length xs) xs (omega arith)
+
+pub front-push : {X : Type 0} (xs : List X) (x : X) → take (length xs) (xs ++ x ∷ []) ≡ xs
+front-push xs x = let within : length xs ≤ length xs = omega arith in take-append-le (length xs) xs (x ∷ []) within ∙ take-all xs
+
+pub front-then : {X : Type 0} (xs ys zs : List X) → take (length xs) ys ≡ xs → take (length ys) zs ≡ ys → length xs ≤ length ys → take (length xs) zs ≡ xs
+front-then xs ys zs first second longer = sym (take-take (length xs) (length ys) zs longer) ∙ (ap (take (length xs)) second ∙ first)

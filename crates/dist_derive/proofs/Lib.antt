@@ -11,8 +11,8 @@ pub mod GrowingLemmas
 pub mod AssumeLemmas
 pub mod WaitLemmas
 pub mod QueueLemmas
-pub mod LayerLemmas
-pub mod LevelLemmas
+pub mod AssumedLemmas
+pub mod BeginLemmas
 pub mod ReachLemmas
 pub mod SweepLemmas
 pub mod NewLemmas
@@ -23,3 +23,8 @@ pub mod SettledLaws
 pub mod HintLaws
 pub mod CountLaws
 pub mod DenialLemmas
+pub mod ResultLemmas
+pub mod WatchLemmas
+pub mod GuardLemmas
+pub mod VisitLemmas
+pub mod StandingLemmas

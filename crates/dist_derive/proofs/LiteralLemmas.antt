@@ -4,6 +4,7 @@ use Rattle.std.proofs.Common.{◌≡◌, ◌≢◌, suc, ◌⊎◌, ⊎_elim, in
 use Rattle.std.specs.List.{Contains}
 use Rattle.std.proofs.lemmas.Bool.{cases_Bool, cases_eq}
 use Rattle.dist_clause.specs.Formula.{Literal, literal}
+use Rattle.dist_derive.specs.OccurrencesPrivate.{code_of}
 use Rattle.dist_derive.proofs.ValuedLemmas.{beq-true, beq-false}
 use Rattle.dist_derive.proofs.MarkedLemmas.{Contains-tail}
 
@@ -15,6 +16,9 @@ same_or_not l m = elim (cases_eq l.variable m.variable) [
   ]
   | inr v ↦ inr (λ e. v (ap (λ (x : Literal). x.variable) e))
 ]
+
+pub same_code : (l m : Literal) → code_of l ≡ code_of m → l ≡ m
+same_code l m e = grind arith
 
 pub contains_or_not : (trues : List Literal) (l : Literal) → Contains trues l ⊎ (¬ Contains trues l)
 contains_or_not [] l = inr (λ h. absurd (omega (arith, h.1)))

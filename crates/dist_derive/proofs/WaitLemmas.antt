@@ -18,7 +18,8 @@ use Rattle.dist_derive.specs.SweepPrivate.{IsRefuted, IsFalseFrom, Waits, Propag
 use Rattle.dist_derive.proofs.LiteralLemmas.{same_or_not, contains_or_not}
 use Rattle.dist_derive.proofs.OutcomeLemmas.{other_false}
 use Rattle.dist_derive.proofs.ValuedLemmas.{not-itself}
-use Rattle.dist_derive.proofs.AssumeLemmas.{ContainsAll-itself, ContainsAll-then, ContainsAll-push, AllFalse-more, OthersFalse-more}
+use Rattle.dist_derive.proofs.AssumeLemmas.{ContainsAll-itself, ContainsAll-then, ContainsAll-push, take-all, front-then, front-push, AllFalse-more}
+use Rattle.dist_derive.proofs.AssumeLemmas.{OthersFalse-more}
 
 not-twice : (b : Bool) → not (not b) ≡ b
 not-twice true = refl
@@ -122,6 +123,7 @@ Propagates-none clauses s = record {
   kept = ContainsAll-itself s.literals;
   forced = λ trues all _. all;
   longer = omega arith;
+  front = take-all s.literals;
   waiting = λ done clause taken h. h;
 }
 
@@ -131,6 +133,7 @@ Propagates-then clauses a b c first second = record {
   kept = ContainsAll-then a.literals b.literals c.literals first.kept second.kept;
   forced = λ trues all propagated. second.forced trues (first.forced trues all propagated) propagated;
   longer = omega (arith, first.longer, second.longer);
+  front = front-then a.literals b.literals c.literals first.front second.front first.longer;
   waiting = λ done clause taken h. second.waiting done clause (omega (arith, first.longer)) (first.waiting done clause taken h);
 }
 
@@ -140,7 +143,7 @@ refuted_before clauses a b h refuted = λ trues all propagated no_conflict. refu
 
 -- what a hint to one of the first clauses does
 module _ (clauses : List (List Literal)) (last : ℕ) (enough : last ≤ length clauses) (old new : LiteralList) (hint : ℕ) where
-  Propagates-unit : (l : Literal) → new ≡ record old { literals = old.literals ++ l ∷ [] } → 1 ≤ hint → hint ≤ last
+  pub Propagates-unit : (l : Literal) → new ≡ record old { literals = old.literals ++ l ∷ [] } → 1 ≤ hint → hint ≤ last
       → IsUnit old.literals (clause_at clauses hint) l → Propagates (take last clauses) old new
   Propagates-unit l same from to u =
       let more : LiteralList = record old { literals = old.literals ++ l ∷ [] } in
@@ -151,6 +154,7 @@ module _ (clauses : List (List Literal)) (last : ℕ) (enough : last ≤ length 
             (All-number (IsPropagated trues) clauses last hint enough from to propagated l u.member
             (OthersFalse-more old.literals trues (clause_at clauses hint) l all u.others));
         longer = omega (arith, length_push old.literals l);
+        front = front-push old.literals l;
         waiting = λ done clause taken h. Waits-push old.literals clause l u.unset done taken h;
       })
 

@@ -10,8 +10,8 @@ pub mod Marking
 pub mod TrueLiterals
 pub mod HintsPrivate
 pub mod SweepPrivate
-pub mod LayersPrivate
-pub mod LevelPrivate
+pub mod AssumePrivate
+pub mod WatchesPrivate
 pub mod LogPrivate
 pub mod ConePrivate
 pub mod Scratch

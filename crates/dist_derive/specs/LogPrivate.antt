@@ -1,18 +1,16 @@
--- What a log keeps beside its clauses: an index of them, and what they give.
-use Rattle.std.specs.Prelude.{◌≡◌, None}
+-- What a log keeps beside its clauses: an index of them, and what a test has left.
+use Rattle.std.specs.Prelude.{◌≡◌}
 use Rattle.dist_clause.specs.ClauseList.{ClauseList}
 use Rattle.dist_derive.specs.ClauseLog.{joined}
-use Rattle.dist_derive.specs.LevelPrivate.{LevelState, IsMadeOf}
 use Rattle.dist_derive.specs.OccurrencesPrivate.{OccurrenceLists, IsIndexOf}
+use Rattle.dist_derive.specs.WatchesPrivate.{WatchingState, IsStandingIfMade}
 
 -- input clauses and lines are over the same variables, and the index is one of both
 pub record IsIndexed (inputs lines : ClauseList) (index : OccurrenceLists) : Type 0 where
   pub same_variables : lines.variables ≡ inputs.variables
   pub is_index : IsIndexOf index (joined inputs lines).clauses
 
--- the index, and where there are such the levels, are those of the clauses
-pub record IsKept (inputs lines : ClauseList) (index : OccurrenceLists) (alone assuming : LevelState) : Type 0 where
+-- the index, and where there is anything what the last test has left, are those of the clauses
+pub record IsKept (inputs lines : ClauseList) (index : OccurrenceLists) (watching : WatchingState) : Type 0 where
   pub indexed : IsIndexed inputs lines index
-  pub alone_of : IsMadeOf (joined inputs lines).clauses inputs.variables alone
-  pub no_assumption : alone.under ≡ None
-  pub assuming_of : IsMadeOf (joined inputs lines).clauses inputs.variables assuming
+  pub standing : IsStandingIfMade (joined inputs lines).clauses inputs.variables watching

@@ -1,5 +1,5 @@
 -- How true literals grow under the clauses, and which clauses are still to be looked at.
-use Rattle.std.specs.Prelude.{◌≡◌, ◌⊎◌, ℕ, ◌<◌, ◌≤◌, List, length, All, Contains, slice_index_or}
+use Rattle.std.specs.Prelude.{◌≡◌, ◌⊎◌, ℕ, ◌<◌, ◌≤◌, List, length, take, All, Contains, slice_index_or}
 use Rattle.dist_clause.specs.Formula.{Literal, negation}
 use Rattle.dist_clause.specs.ClauseList.{clause_at}
 use Rattle.dist_derive.specs.ContainmentPrivate.{ContainsAll}
@@ -38,11 +38,6 @@ pub record IsFalseFrom (trues : List Literal) (first : ℕ) (clause : List Liter
 abbrev pub Waits : List Literal → ℕ → List Literal → Type 0
 Waits trues done clause = HasOutcome trues clause Open ⊎ IsFalseFrom trues done clause
 
--- the clauses with numbers up to `last` wait
-abbrev pub WaitUpTo : List (List Literal) → ℕ → List Literal → ℕ → Type 0
-WaitUpTo clauses last trues done = (number : ℕ) → 1 ≤ number → number ≤ last
-    → Waits trues done (clause_at clauses number)
-
 -- the clauses in the index with numbers up to `last` wait
 abbrev pub AllWait : OccurrenceLists → List (List Literal) → ℕ → List Literal → ℕ → Type 0
 AllWait index clauses last trues done = (number : ℕ) → 1 ≤ number → number ≤ index.covered → number ≤ last
@@ -54,6 +49,7 @@ pub record Propagates (clauses : List (List Literal)) (old new : LiteralList) : 
   pub kept : ContainsAll new.literals old.literals
   pub forced : IsForced clauses old.literals new.literals
   pub longer : length old.literals ≤ length new.literals
+  pub front : take (length old.literals) new.literals ≡ old.literals
   pub waiting : (done : ℕ) (clause : List Literal) → done ≤ length old.literals → Waits old.literals done clause
       → Waits new.literals done clause
 

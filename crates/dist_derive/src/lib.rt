@@ -1,11 +1,12 @@
 //! The log of derived clauses and the two tests on which certificates rest: whether a clause follows by hints, and
 //! whether it is new. The literals that are true for now are public, so that a search propagates over the same ones.
 //!
-//! `follows` costs the literals of the hinted clauses and takes no memory. The log keeps what its clauses give by themselves
-//! (`Log::cover`, and `Log::settle` for later lines), and `is_new` begins from there: it costs the clauses in which a literal
-//! that the assumptions or the clause make true stands negated, and those of the cone. `is_new_within` is given the cone, and
-//! `are_new` makes it once for all lines of a question. Clauses that the index hasn't got are walked. What stands here decides
-//! what a certificate proves: a change needs the checker's laws again.
+//! `follows` costs the literals of the hinted clauses and takes no memory. A test of newness under the assumptions of the
+//! one before it costs what the clause's own literals touch: the log keeps what its clauses give alone and under these
+//! assumptions, and finds each clause by two of its literals (`watches.rt`), so that it looks at a clause when one of the
+//! two becomes false. `is_new_within` is given the cone, and `are_new` makes it once for all lines of a question. `is_new`
+//! begins from nothing and takes each clause; so do the others where memory is wanting. What stands here decides what a
+//! certificate proves: a change needs the checker's laws again.
 #![tactic(auto)]
 
 mod cone;
@@ -14,17 +15,18 @@ mod denials;
 mod follows;
 mod inputs;
 mod laws;
-mod layers;
-mod level;
-mod levels;
 mod log;
 mod new_lines;
 mod newness;
 mod occurrences;
 mod propagation;
 mod scratch;
+mod standing;
 mod true_literals;
 mod variable_set;
+mod watched;
+mod watches;
+mod watching;
 
 pub use laws::{
     cone_is_closed, cone_models_extend, lines_keep_models, more_clauses_keep_what_follows,

@@ -10,9 +10,9 @@ ghost use Rattle.dist_derive.specs.OccurrencesPrivate.{IsIndexOf};
 ghost use Rattle.dist_derive.specs.LogPrivate.{IsIndexed};
 
 use crate::inputs::Inputs;
-use crate::level::Level;
 use crate::occurrences::{Link, Occurrences, code_of};
 use crate::variable_set::VariableSet;
+use crate::watching::Watching;
 use dist_base::{MAX_CLAUSES, MAX_LINE_LITERALS, MAX_LINES, MAX_VARIABLES};
 use dist_clause::{ClauseSet, Lit, PushError};
 use std::alloc::{AllocError, Global};
@@ -35,10 +35,8 @@ pub struct Log {
     lines: ClauseSet,
     /// The clauses in which each literal stands, of those that are in the index.
     occurrences: Occurrences,
-    /// What the clauses give by themselves, once they are put into the index.
-    pub(crate) alone: Level,
-    /// What they give under a literal too, where that was asked for.
-    pub(crate) assuming: Level,
+    /// What the last test of newness has left.
+    pub(crate) watching: Watching,
     pub(crate) alloc: Global,
 }
 
@@ -50,7 +48,7 @@ impl Model for Log {
 
     ghost view = { λ a. joined a.inputs a.lines };
 
-    ghost invariant = { λ a. IsKept a.inputs a.lines a.occurrences a.alone a.assuming };
+    ghost invariant = { λ a. IsKept a.inputs a.lines a.occurrences a.watching };
 }
 
 impl Log {
@@ -71,26 +69,19 @@ impl Log {
             inputs: Inputs::of(alloc, inputs),
             lines,
             occurrences: Occurrences::new(alloc),
-            alone: Level::empty(alloc),
-            assuming: Level::empty(alloc),
+            watching: Watching::empty(alloc),
             alloc,
         }
     }
 
-    /// Puts the clauses that the index hasn't got yet into it, and takes in what all clauses give. Until then, and after
-    /// want of memory, calls walk these.
+    /// Puts the clauses that the index hasn't got yet into it. Until then, and after want of memory, calls walk these.
     fn cover(&mut self) -> Result<(), AllocError>
         ensures same { self.new ≡ self.old }
     {
         let variables = self.inputs.variables();
         self.occurrences.make_lists(variables)?;
         cover_all(&mut self.occurrences, self.inputs.set(), &self.lines)?;
-        self.inputs.index(self.alloc)?;
-        if !self.alone.is_made {
-            self.alone = Level::new(self.alloc, variables)?;
-        }
-        self.settle();
-        Ok(())
+        self.inputs.index(self.alloc)
     }
 
     /// A log without lines, with its clauses in the index. Without an index calls walk all clauses.

@@ -1,46 +1,41 @@
 //! Whether all lines of a question are new.
 //!
-//! The assumptions are propagated once, and each line is taken in when it was tested, so that a line costs what its own
-//! literals touch.
+//! Each line is tested and then taken in, so that a line costs what its own literals touch.
 
-ghost use Rattle.std.specs.Prelude.{◌≡◌, ◌<◌, ◌≤◌, ◌↔◌, ◌+◌, ◌-◌, ℕ, length, take, All, Contains, IsTrue};
+ghost use Rattle.std.specs.Prelude.{◌≡◌, ◌<◌, ◌≤◌, ◌↔◌, ◌+◌, ℕ, length, take, All, Contains, IfOk, IsTrue};
 ghost use Rattle.dist_clause.specs.Formula.{IsClauseOver};
 ghost use Rattle.dist_clause.specs.ClauseList.{clause_at};
 ghost use Rattle.dist_derive.specs.ClauseLog.{inputs_of};
 ghost use Rattle.dist_derive.specs.Cone.{InCone};
-ghost use Rattle.dist_derive.specs.New.{IsNew, LeavesFirstUnset, AreNewFrom};
-ghost use Rattle.dist_derive.specs.LevelPrivate.{IsLevelOf};
-ghost use Rattle.dist_derive.specs.SweepPrivate.{WaitUpTo, AllOpen, Propagates};
+ghost use Rattle.dist_derive.specs.New.{LeavesFirstUnset, AreNewFrom};
+ghost use Rattle.dist_derive.specs.WatchesPrivate.{IsStandingIfMade};
 
-use crate::layers::Layers;
 use crate::variable_set::VariableSet;
+use crate::watching::Watching;
 use crate::{Log, Scratch};
 use dist_clause::Lit;
+use std::alloc::AllocError;
 
 impl Log {
     /// Whether each clause with a number above `last` is new under assumptions over the clauses before it.
-    pub fn are_new(&self, scratch: &mut Scratch, assumptions: &[Lit], last: u32) -> bool
-        requires assumptions { IsClauseOver self.now.variables assumptions.now }
-        requires scratch { scratch.old ≡ self.now.variables }
-        requires last { last ≤ length self.now.clauses }
-        ensures answer { IsTrue result ↔ AreNewFrom self.now.clauses self.now.inputs assumptions.now last }
+    pub fn are_new(&mut self, scratch: &mut Scratch, assumptions: &[Lit], last: u32) -> bool
+        requires assumptions { IsClauseOver self.old.variables assumptions.now }
+        requires scratch { scratch.old ≡ self.old.variables }
+        requires last { last ≤ length self.old.clauses }
+        ensures answer { IsTrue result ↔ AreNewFrom self.old.clauses self.old.inputs assumptions.now last }
+        ensures same { self.new ≡ self.old }
         ensures ready { scratch.new ≡ scratch.old }
     {
-        if last >= self.len() {
-            return true;
-        }
         if last < self.inputs() {
             return self.each_is_new(scratch, assumptions, last);
         }
-        let room = scratch.room.take(scratch.alloc);
         self.mark_cone(&mut scratch.cone, assumptions);
-        let start = self.start(&scratch.literals, assumptions, last);
-        let mut literals = Layers::new(start.literals, room);
-        let cone = &scratch.cone;
-        let answer = self.lines_are_new(&mut literals, cone, assumptions, start.taken, last);
-        scratch.room = literals.into_room();
+        let told = self.lines_are_new(&scratch.cone, assumptions, last);
         scratch.cone.clear();
-        answer
+        match told {
+            Ok(answer) => answer,
+            Err(_) => self.each_is_new(scratch, assumptions, last),
+        }
     }
 
     /// The same, by one test after another.
@@ -60,79 +55,76 @@ impl Log {
         true
     }
 
-    /// The same where the last number is behind the input clauses, the cone of the assumptions is given, and the first
-    /// `taken` clauses gave the literals that are true.
+    /// The same where the last number is not among the input clauses, and the cone of the assumptions is given.
     fn lines_are_new(
-        &self,
-        literals: &mut Layers<'_>,
+        &mut self,
         cone: &VariableSet,
         assumptions: &[Lit],
-        taken: u32,
         last: u32,
-    ) -> bool
-        requires level { IsLevelOf self.now.clauses self.now.variables assumptions.now literals.old.all taken }
-        requires within { taken ≤ last }
-        requires last { last < length self.now.clauses }
+    ) -> Result<bool, AllocError>
+        requires inputs { self.old.inputs ≤ last }
+        requires last { last ≤ length self.old.clauses }
+        requires assumptions { All (λ l. l.variable ≤ self.old.variables) assumptions.now }
+        requires cone_variables { cone.now.variables ≡ self.old.variables }
+        requires cone { (v : ℕ) → Contains cone.now.members v ↔ InCone (inputs_of self.old) assumptions.now v }
+        ensures answer { IfOk result (λ answer. IsTrue answer
+            ↔ AreNewFrom self.old.clauses self.old.inputs assumptions.now last) }
+        ensures same { self.new ≡ self.old }
+    {
+        let mut watching = self.watching.take(self.alloc);
+        let answer = self.tell_lines(&mut watching, cone, assumptions, last)?;
+        self.watching = watching;
+        Ok(answer)
+    }
+
+    /// The same, from what is kept.
+    fn tell_lines(
+        &self,
+        watching: &mut Watching,
+        cone: &VariableSet,
+        assumptions: &[Lit],
+        last: u32,
+    ) -> Result<bool, AllocError>
+        requires standing { IsStandingIfMade self.now.clauses self.now.variables watching.old }
         requires inputs { self.now.inputs ≤ last }
         requires assumptions { All (λ l. l.variable ≤ self.now.variables) assumptions.now }
         requires cone_variables { cone.now.variables ≡ self.now.variables }
         requires cone { (v : ℕ) → Contains cone.now.members v ↔ InCone (inputs_of self.now) assumptions.now v }
-        ensures answer { IsTrue result ↔ AreNewFrom self.now.clauses self.now.inputs assumptions.now last }
-        ensures same_variables { literals.new.all.variables ≡ literals.old.all.variables }
+        ensures answer { IfOk result (λ answer. IsTrue answer
+            ↔ AreNewFrom self.now.clauses self.now.inputs assumptions.now last) }
+        ensures standing { IfOk result (λ _. IsStandingIfMade self.now.clauses self.now.variables watching.new) }
     {
-        let mut done = literals.len();
-        let mut seen = taken;
-        if !literals.assume_all(assumptions) {
-            return false;
-        }
         for before in last..self.len() {
-            if !self.line_is_new(literals, cone, done, seen, before) {
-                return false;
+            if !self.tell_line(watching, cone, assumptions, before)? {
+                return Ok(false);
             }
-            done = literals.len();
-            seen = before;
         }
-        true
+        Ok(true)
     }
 
-    /// Whether all variables of the clause behind the first `before` ones are in a set, and these clauses leave its first
-    /// literal unset, as `is_left_unset` says. The literals grow by what these clauses give.
-    fn line_is_new(
+    /// Whether all variables of the clause behind the first `before` ones are in a set, and its first literal is left unset
+    /// by these, as `tested` says.
+    fn tell_line(
         &self,
-        literals: &mut Layers<'_>,
+        watching: &mut Watching,
         cone: &VariableSet,
-        done: usize,
-        seen: u32,
+        assumptions: &[Lit],
         before: u32,
-    ) -> bool
-        requires same_variables { literals.old.all.variables ≡ self.now.variables }
-        requires cone_variables { cone.now.variables ≡ self.now.variables }
+    ) -> Result<bool, AllocError>
+        requires standing { IsStandingIfMade self.now.clauses self.now.variables watching.old }
         requires before { before < length self.now.clauses }
-        requires done { done ≤ length literals.old.all.literals }
-        requires waiting { WaitUpTo self.now.clauses seen literals.old.all.literals done }
-        ensures reached { IsTrue result
-            → All (λ l. Contains cone.now.members l.variable) (clause_at self.now.clauses (before + 1)) }
-        ensures unset { IsTrue result
-            → LeavesFirstUnset (take before self.now.clauses) literals.old.all.literals
-            (clause_at self.now.clauses (before + 1)) }
-        ensures new { All (λ l. Contains cone.now.members l.variable) (clause_at self.now.clauses (before + 1))
-            → LeavesFirstUnset (take before self.now.clauses) literals.old.all.literals
-            (clause_at self.now.clauses (before + 1)) → IsTrue result }
-        ensures grows { IsTrue result → Propagates (take before self.now.clauses) literals.old.all literals.new.all }
-        ensures settled { IsTrue result → AllOpen literals.new.all.literals (take before self.now.clauses) }
-        ensures same_variables { literals.new.all.variables ≡ literals.old.all.variables }
+        requires assumptions { All (λ l. l.variable ≤ self.now.variables) assumptions.now }
+        requires cone_variables { cone.now.variables ≡ self.now.variables }
+        ensures answer { IfOk result (λ answer. IsTrue answer
+            ↔ (All (λ l. Contains cone.now.members l.variable) (clause_at self.now.clauses (before + 1))
+            × LeavesFirstUnset (take before self.now.clauses) assumptions.now (clause_at self.now.clauses (before + 1)))) }
+        ensures standing { IfOk result (λ _. IsStandingIfMade self.now.clauses self.now.variables watching.new) }
     {
         let _clauses = self.len();
         let clause = self.clause(before + 1);
         if !cone.has_clause(clause) {
-            return false;
+            return Ok(false);
         }
-        if !self.propagate(literals, done, seen, before) {
-            return false;
-        }
-        literals.set_mark();
-        let unset = self.is_left_unset(literals, clause, literals.len(), before, before);
-        literals.take_back();
-        unset
+        self.tell(watching, assumptions, clause, before)
     }
 }

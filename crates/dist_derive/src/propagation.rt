@@ -7,12 +7,11 @@ ghost use Rattle.dist_clause.specs.ClauseList.{clause_at};
 ghost use Rattle.dist_derive.specs.TrueLiterals.{HasOutcome};
 ghost use Rattle.dist_derive.specs.HintsPrivate.{TakesHint};
 ghost use Rattle.dist_derive.specs.OccurrencesPrivate.{Lists, IsIndexOf};
-ghost use Rattle.dist_derive.specs.SweepPrivate.{IsRefuted, AllOpen, Waits, WaitUpTo, AllWait, Propagates, Sweeps};
+ghost use Rattle.dist_derive.specs.SweepPrivate.{IsRefuted, AllOpen, Waits, AllWait, Propagates, Sweeps};
 
 use crate::Log;
-use crate::layers::Layers;
 use crate::occurrences::{Occurrences, code_of};
-use crate::true_literals::Outcome;
+use crate::true_literals::{Outcome, TrueLiterals};
 
 /// What a walk over clauses found.
 #[derive(Clone, Copy, Debug)]
@@ -26,29 +25,19 @@ pub enum Sweep {
 }
 
 impl Log {
-    /// Makes true what unit propagation by the first `last` clauses gives; answers whether none of them is false then. The
-    /// first `seen` clauses were looked at when the literals before the place `done` were taken.
-    pub(crate) fn propagate(
-        &self,
-        literals: &mut Layers<'_>,
-        done: usize,
-        seen: u32,
-        last: u32,
-    ) -> bool
-        requires same_variables { literals.old.all.variables ≡ self.now.variables }
+    /// Makes true what unit propagation by the first `last` clauses gives; answers whether none of them is false then.
+    pub(crate) fn propagate(&self, literals: &mut TrueLiterals, last: u32) -> bool
+        requires same_variables { literals.old.variables ≡ self.now.variables }
         requires last { last ≤ length self.now.clauses }
-        requires done { done ≤ length literals.old.all.literals }
-        requires waiting { WaitUpTo self.now.clauses seen literals.old.all.literals done }
-        ensures same_marked { literals.new.marked ≡ literals.old.marked }
-        ensures grows { Propagates (take last self.now.clauses) literals.old.all literals.new.all }
-        ensures settled { IsTrue result → AllOpen literals.new.all.literals (take last self.now.clauses) }
-        ensures refuted { result ≡ false → IsRefuted (take last self.now.clauses) literals.old.all.literals }
+        ensures grows { Propagates (take last self.now.clauses) literals.old literals.new }
+        ensures settled { IsTrue result → AllOpen literals.new.literals (take last self.now.clauses) }
+        ensures refuted { result ≡ false → IsRefuted (take last self.now.clauses) literals.old.literals }
     {
         let index = self.occurrences();
-        if !self.look_behind(literals, seen, last) {
+        if !self.look_at_all(literals, last) {
             return false;
         }
-        let mut done = done;
+        let mut done = 0;
         loop {
             if !self.take_literals(index, literals, done, last) {
                 return false;
@@ -62,18 +51,17 @@ impl Log {
         }
     }
 
-    /// Looks once at the clauses with numbers above `seen` and up to `last`; answers whether none of them is false.
-    fn look_behind(&self, literals: &mut Layers<'_>, seen: u32, last: u32) -> bool
-        requires same_variables { literals.old.all.variables ≡ self.now.variables }
+    /// Looks once at the clauses with numbers up to `last`; answers whether none of them is false.
+    fn look_at_all(&self, literals: &mut TrueLiterals, last: u32) -> bool
+        requires same_variables { literals.old.variables ≡ self.now.variables }
         requires last { last ≤ length self.now.clauses }
-        ensures same_marked { literals.new.marked ≡ literals.old.marked }
-        ensures grows { Propagates (take last self.now.clauses) literals.old.all literals.new.all }
-        ensures looked { IsTrue result → (number done : ℕ) → seen < number → number ≤ last
-            → done ≤ length literals.old.all.literals
-            → Waits literals.new.all.literals done (clause_at self.now.clauses number) }
-        ensures refuted { result ≡ false → IsRefuted (take last self.now.clauses) literals.old.all.literals }
+        ensures grows { Propagates (take last self.now.clauses) literals.old literals.new }
+        ensures looked { IsTrue result → (number done : ℕ) → 1 ≤ number → number ≤ last
+            → done ≤ length literals.old.literals
+            → Waits literals.new.literals done (clause_at self.now.clauses number) }
+        ensures refuted { result ≡ false → IsRefuted (take last self.now.clauses) literals.old.literals }
     {
-        for place in seen..last {
+        for place in 0..last {
             if !self.look_at(literals, place + 1, last) {
                 return false;
             }
@@ -86,19 +74,18 @@ impl Log {
     fn take_literals(
         &self,
         index: &Occurrences,
-        literals: &mut Layers<'_>,
+        literals: &mut TrueLiterals,
         first: usize,
         last: u32,
     ) -> bool
         requires index { IsIndexOf index.now self.now.clauses }
-        requires same_variables { literals.old.all.variables ≡ self.now.variables }
+        requires same_variables { literals.old.variables ≡ self.now.variables }
         requires last { last ≤ length self.now.clauses }
-        requires waiting { AllWait index.now self.now.clauses last literals.old.all.literals first }
-        ensures same_marked { literals.new.marked ≡ literals.old.marked }
-        ensures grows { Propagates (take last self.now.clauses) literals.old.all literals.new.all }
-        ensures settled { IsTrue result → AllWait index.now self.now.clauses last literals.new.all.literals
-            (length literals.new.all.literals) }
-        ensures refuted { result ≡ false → IsRefuted (take last self.now.clauses) literals.old.all.literals }
+        requires waiting { AllWait index.now self.now.clauses last literals.old.literals first }
+        ensures grows { Propagates (take last self.now.clauses) literals.old literals.new }
+        ensures settled { IsTrue result → AllWait index.now self.now.clauses last literals.new.literals
+            (length literals.new.literals) }
+        ensures refuted { result ≡ false → IsRefuted (take last self.now.clauses) literals.old.literals }
     {
         let mut done = first;
         while done < literals.len() {
@@ -112,15 +99,20 @@ impl Log {
     }
 
     /// Looks at the clauses of a list with numbers up to `last`; answers whether none of them is false.
-    fn visit(&self, index: &Occurrences, literals: &mut Layers<'_>, latest: u32, last: u32) -> bool
+    fn visit(
+        &self,
+        index: &Occurrences,
+        literals: &mut TrueLiterals,
+        latest: u32,
+        last: u32,
+    ) -> bool
         requires index { IsIndexOf index.now self.now.clauses }
-        requires same_variables { literals.old.all.variables ≡ self.now.variables }
+        requires same_variables { literals.old.variables ≡ self.now.variables }
         requires last { last ≤ length self.now.clauses }
-        ensures same_marked { literals.new.marked ≡ literals.old.marked }
-        ensures grows { Propagates (take last self.now.clauses) literals.old.all literals.new.all }
+        ensures grows { Propagates (take last self.now.clauses) literals.old literals.new }
         ensures visited { IsTrue result → (number done : ℕ) → Lists index.now.links latest number → number ≤ last
-            → done ≤ length literals.old.all.literals → Waits literals.new.all.literals done (clause_at self.now.clauses number) }
-        ensures refuted { result ≡ false → IsRefuted (take last self.now.clauses) literals.old.all.literals }
+            → done ≤ length literals.old.literals → Waits literals.new.literals done (clause_at self.now.clauses number) }
+        ensures refuted { result ≡ false → IsRefuted (take last self.now.clauses) literals.old.literals }
     {
         let mut place = latest;
         while let Some(link) = index.link(place) {
@@ -134,15 +126,14 @@ impl Log {
 
     /// Makes the literal of a clause true if it is unit, and answers whether it is not false. A clause with a number above
     /// `last` is passed over.
-    fn look_at(&self, literals: &mut Layers<'_>, number: u32, last: u32) -> bool
-        requires same_variables { literals.old.all.variables ≡ self.now.variables }
+    fn look_at(&self, literals: &mut TrueLiterals, number: u32, last: u32) -> bool
+        requires same_variables { literals.old.variables ≡ self.now.variables }
         requires last { last ≤ length self.now.clauses }
         requires from_one { 1 ≤ number }
-        ensures same_marked { literals.new.marked ≡ literals.old.marked }
-        ensures grows { Propagates (take last self.now.clauses) literals.old.all literals.new.all }
+        ensures grows { Propagates (take last self.now.clauses) literals.old literals.new }
         ensures is_open { IsTrue result → number ≤ last
-            → HasOutcome literals.new.all.literals (clause_at self.now.clauses number) Outcome.Open }
-        ensures refuted { result ≡ false → IsRefuted (take last self.now.clauses) literals.old.all.literals }
+            → HasOutcome literals.new.literals (clause_at self.now.clauses number) Outcome.Open }
+        ensures refuted { result ≡ false → IsRefuted (take last self.now.clauses) literals.old.literals }
     {
         if number > last {
             return true;
@@ -154,12 +145,11 @@ impl Log {
     }
 
     /// Walks once over the clauses with numbers above `first` and up to `last`; the literal of each unit one becomes true.
-    fn sweep(&self, literals: &mut Layers<'_>, first: u32, last: u32) -> Sweep
-        requires same_variables { literals.old.all.variables ≡ self.now.variables }
+    fn sweep(&self, literals: &mut TrueLiterals, first: u32, last: u32) -> Sweep
+        requires same_variables { literals.old.variables ≡ self.now.variables }
         requires last { last ≤ length self.now.clauses }
-        ensures same_marked { literals.new.marked ≡ literals.old.marked }
-        ensures grows { Propagates (take last self.now.clauses) literals.old.all literals.new.all }
-        ensures found { Sweeps (take last self.now.clauses) first literals.old.all literals.new.all result }
+        ensures grows { Propagates (take last self.now.clauses) literals.old literals.new }
+        ensures found { Sweeps (take last self.now.clauses) first literals.old literals.new result }
     {
         let mut grown = false;
         for place in first..last {
@@ -176,10 +166,9 @@ impl Log {
     }
 
     /// What the clause of a number is; if it is unit, its literal becomes true.
-    fn take_clause(&self, literals: &mut Layers<'_>, number: u32) -> Outcome
-        requires { literals.old.all.variables ≡ self.now.variables }
-        ensures taken { TakesHint self.now.clauses literals.old.all literals.new.all number result }
-        ensures same_marked { literals.new.marked ≡ literals.old.marked }
+    fn take_clause(&self, literals: &mut TrueLiterals, number: u32) -> Outcome
+        requires { literals.old.variables ≡ self.now.variables }
+        ensures { TakesHint self.now.clauses literals.old literals.new number result }
     {
         if number == 0 || number > self.len() {
             return Outcome::Open;

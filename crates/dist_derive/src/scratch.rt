@@ -13,11 +13,8 @@ use std::marker::Model;
 pub struct Scratch {
     /// No literal is true here between the calls.
     pub(crate) literals: TrueLiterals,
-    /// Room for the literals of a test above those of a log.
-    pub(crate) room: TrueLiterals,
     pub(crate) cone: VariableSet,
     pub(crate) conflicts: Conflicts,
-    pub(crate) alloc: Global,
 }
 
 impl Model for Scratch {
@@ -28,7 +25,7 @@ impl Model for Scratch {
 
     ghost view = { λ a. a.literals.variables };
 
-    ghost invariant = { λ a. IsReady a.literals a.room a.cone a.conflicts };
+    ghost invariant = { λ a. IsReady a.literals a.cone a.conflicts };
 }
 
 impl Scratch {
@@ -37,15 +34,12 @@ impl Scratch {
         ensures { IfOk result (λ s. s ≡ variables) }
     {
         let literals = TrueLiterals::new(alloc, variables)?;
-        let room = TrueLiterals::new(alloc, variables)?;
         let cone = VariableSet::new(alloc, variables)?;
         let conflicts = Conflicts::new(alloc)?;
         Ok(Scratch {
             literals,
-            room,
             cone,
             conflicts,
-            alloc,
         })
     }
 

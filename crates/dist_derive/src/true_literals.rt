@@ -1,15 +1,15 @@
 //! Literals that are true for now, and what clauses are under them.
 
-ghost use Rattle.std.specs.Prelude.{◌≡◌, ◌≢◌, ◌<◌, ◌≤◌, ◌↔◌, [], ◌∷◌, ◌++◌, List, length, map, take, All, Contains, IfOk, IsTrue, slice_index_or};
+ghost use Rattle.std.specs.Prelude.{◌≡◌, ◌≢◌, ◌<◌, ◌≤◌, ◌↔◌, false, [], ◌∷◌, ◌++◌, List, length, map, take, All, Contains, IfOk, IfSome, IfNone, IsTrue, slice_index_or};
 ghost use Rattle.dist_clause.specs.Formula.{Literal, negation, IsClauseOver};
-ghost use Rattle.dist_derive.specs.Propagation.{IsUnset, IsConsistent};
+ghost use Rattle.dist_derive.specs.Propagation.{IsFalse, IsUnset, AllFalse, OthersFalse, IsConsistent};
+ghost use Rattle.dist_derive.specs.AssumePrivate.{Assumes, AssumesAll};
 
 use crate::variable_set::VariableSet;
 use dist_base::MAX_VARIABLES;
 use dist_clause::{Assignment, Lit};
 use std::alloc::{AllocError, Global};
 use std::marker::Model;
-use std::mem;
 
 /// What a literal is under the true ones.
 #[derive(Clone, Copy, Debug)]
@@ -69,28 +69,6 @@ impl TrueLiterals {
         }
     }
 
-    /// Takes them out. Those of no variables stay.
-    pub(crate) fn take(&mut self, alloc: Global) -> TrueLiterals
-        ensures { result ≡ self.old }
-    {
-        mem::replace(self, TrueLiterals::empty(alloc))
-    }
-
-    /// The same literals, in room of their own.
-    pub(crate) fn copy(
-        alloc: Global,
-        variables: u32,
-        other: &TrueLiterals,
-    ) -> Result<TrueLiterals, AllocError>
-        requires { variables ≡ other.now.variables }
-        ensures { IfOk result (λ t. t ≡ other.now) }
-    {
-        let touched = VariableSet::copy(alloc, variables, &other.touched)?;
-        let mut signs = Assignment::new(alloc, variables)?;
-        signs.copy_from(&other.signs);
-        Ok(TrueLiterals { touched, signs })
-    }
-
     /// What a literal is under the true ones.
     pub fn status(&self, literal: Lit) -> Truth
         requires { literal.variable ≤ self.now.variables }
@@ -104,6 +82,65 @@ impl TrueLiterals {
         } else {
             Truth::False
         }
+    }
+
+    /// Whether a literal is true.
+    pub(crate) fn is_true(&self, literal: Lit) -> bool
+        requires { literal.variable ≤ self.now.variables }
+        ensures { IsTrue result → Contains self.now.literals literal }
+    {
+        matches!(self.status(literal), Truth::True)
+    }
+
+    /// Whether a literal is false.
+    fn is_false(&self, literal: Lit) -> bool
+        requires { literal.variable ≤ self.now.variables }
+        ensures { IsTrue result ↔ IsFalse self.now.literals literal }
+    {
+        match self.status(literal) {
+            Truth::False => true,
+            Truth::True | Truth::Unset => false,
+        }
+    }
+
+    /// A literal of a clause that is not false: this one, if it isn't.
+    pub(crate) fn free(&self, clause: &[Lit], first: Lit) -> Option<Lit>
+        requires clause { IsClauseOver self.now.variables clause.now }
+        requires member { Contains clause.now first }
+        ensures some { IfSome result (λ l. Contains clause.now l × (¬ IsFalse self.now.literals l)) }
+        ensures none { IfNone result (AllFalse self.now.literals clause.now) }
+    {
+        if self.is_false(first) {
+            self.other_free(clause, first)
+        } else {
+            Some(first)
+        }
+    }
+
+    /// A literal of a clause that is not false, other than this one.
+    pub(crate) fn other_free(&self, clause: &[Lit], one: Lit) -> Option<Lit>
+        requires { IsClauseOver self.now.variables clause.now }
+        ensures some { IfSome result (λ l. Contains clause.now l × (one ≢ l) × (¬ IsFalse self.now.literals l)) }
+        ensures none { IfNone result (OthersFalse self.now.literals clause.now one) }
+    {
+        for literal in clause {
+            if self.is_other_free(*literal, one) {
+                return Some(*literal);
+            }
+        }
+        None
+    }
+
+    /// Whether a literal is not false, and not this one.
+    fn is_other_free(&self, literal: Lit, one: Lit) -> bool
+        requires { literal.variable ≤ self.now.variables }
+        ensures yes { IsTrue result → (one ≢ literal) × (¬ IsFalse self.now.literals literal) }
+        ensures no { result ≡ false → literal ≢ one → IsFalse self.now.literals literal }
+    {
+        if one == literal {
+            return false;
+        }
+        !self.is_false(literal)
     }
 
     /// How many literals are true.
@@ -147,6 +184,47 @@ impl TrueLiterals {
         for literal in clause {
             self.make_true(literal.negated());
         }
+    }
+
+    /// Makes a literal true, unless it is false; answers whether it is true then.
+    pub(crate) fn assume(&mut self, literal: Lit) -> bool
+        requires { literal.variable ≤ self.old.variables }
+        ensures { Assumes self.old self.new literal result }
+    {
+        match self.status(literal) {
+            Truth::True => true,
+            Truth::False => false,
+            Truth::Unset => {
+                self.make_true(literal);
+                true
+            }
+        }
+    }
+
+    /// Makes literals true, up to one that is false; answers whether all are true then.
+    pub(crate) fn assume_all(&mut self, literals: &[Lit]) -> bool
+        requires { All (λ l. l.variable ≤ self.old.variables) literals.now }
+        ensures { AssumesAll self.old self.new literals.now result }
+    {
+        for literal in literals {
+            if !self.assume(*literal) {
+                return false;
+            }
+        }
+        true
+    }
+
+    /// Makes the literals of a clause false, up to one that is true; answers whether all are false then.
+    pub(crate) fn deny_all(&mut self, clause: &[Lit]) -> bool
+        requires { All (λ l. l.variable ≤ self.old.variables) clause.now }
+        ensures { AssumesAll self.old self.new (map negation clause.now) result }
+    {
+        for literal in clause {
+            if !self.assume(literal.negated()) {
+                return false;
+            }
+        }
+        true
     }
 
     /// Whether neither a literal nor its negation is true.

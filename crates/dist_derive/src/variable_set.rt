@@ -50,22 +50,6 @@ impl VariableSet {
         }
     }
 
-    /// The same set, in room of its own.
-    pub(crate) fn copy(
-        alloc: Global,
-        variables: u32,
-        other: &VariableSet,
-    ) -> Result<VariableSet, AllocError>
-        requires { variables ≡ other.now.variables }
-        ensures { IfOk result (λ s. s ≡ other.now) }
-    {
-        let mut marks = Assignment::new(alloc, variables)?;
-        marks.copy_from(&other.marks);
-        let mut members = Vec::with_capacity(alloc, variables as usize)?;
-        members.extend_from_slice(&other.members)?;
-        Ok(VariableSet { marks, members })
-    }
-
     /// Whether a variable is in.
     pub fn contains(&self, variable: u32) -> bool
         requires from_one { 1 ≤ variable }

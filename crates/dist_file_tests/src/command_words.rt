@@ -15,6 +15,7 @@ enum Told {
     Classes,
     Check,
     Steps,
+    Follow,
     Try(u32, u32),
     Refused,
 }
@@ -29,6 +30,10 @@ fn read_of(command: &Command<'_>) -> Option<Told> {
         Command::Classes("f") => Some(Told::Classes),
         Command::Check(files) if files.packages == "f" && files.cert == "g" => Some(Told::Check),
         Command::Steps(files) if files.packages == "f" && files.later == "g" => Some(Told::Steps),
+        Command::Follow(files)
+            if files.packages == "f" && files.cert == "g" && files.journal == "h" => {
+            Some(Told::Follow)
+        }
         Command::Try(sizes) => Some(Told::Try(sizes.size, sizes.seed)),
         _ => None,
     }
@@ -49,7 +54,7 @@ fn read(alloc: Global, list: &[&str]) -> Result<Option<Told>, AllocError> {
 /// Words, and what is read of them.
 type Row = (&'static [&'static str], Told);
 
-const COMMANDS: [Row; 10] = [
+const COMMANDS: [Row; 11] = [
     (
         &["strong", "f", "g"],
         Told::Sweep(CertKind::Strong, 10_000, false),
@@ -82,6 +87,7 @@ const COMMANDS: [Row; 10] = [
     (&["classes", "f"], Told::Classes),
     (&["check", "f", "g"], Told::Check),
     (&["steps", "f", "g"], Told::Steps),
+    (&["follow", "f", "g", "h"], Told::Follow),
     (&["try", "--seed", "0", "--size", "2"], Told::Try(2, 0)),
 ];
 
@@ -97,7 +103,7 @@ fn commands_are_read(rt: HostRuntime) -> Result<(), Fail> {
     Ok(hold(&rt, &COMMANDS)?)
 }
 
-const OTHERS: [&[&str]; 22] = [
+const OTHERS: [&[&str]; 25] = [
     &[],
     &["strong", "f"],
     &["health", "f", "g", "--limit", "3"],
@@ -119,6 +125,9 @@ const OTHERS: [&[&str]; 22] = [
     &["outdated", "f", "g", "--limit", "0"],
     &["steps", "f"],
     &["steps", "f", "g", "--limit", "3"],
+    &["follow", "f", "g"],
+    &["follow", "f", "g", "h", "i"],
+    &["follow", "f", "g", "h", "--essential"],
     &["--help"],
 ];
 

@@ -19,7 +19,7 @@ use Rattle.dist_report.specs.PackageText.{label}
 use Rattle.dist_history.specs.PlanText.{cluster_text, names_text, plan_text, step_text}
 
 -- the first items with one more
-take-next : {X : Type 0} (xs : List X) (k : ℕ) (x : X) → slice_get xs k ≡ Some x → take (k + 1) xs ≡ take k xs ++ x ∷ []
+pub take-next : {X : Type 0} (xs : List X) (k : ℕ) (x : X) → slice_get xs k ≡ Some x → take (k + 1) xs ≡ take k xs ++ x ∷ []
 take-next xs k x is =
     let here : get_or xs k x ≡ x = get_or_from_slice_get xs k x x is in
     take_more xs k x (slice_get_within xs k x is) ∙ ap (λ y. take k xs ++ y ∷ []) here

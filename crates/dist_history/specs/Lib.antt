@@ -1,2 +1,4 @@
 pub mod PlanText
+pub mod FollowText
+pub mod FollowTextLaws
 pub mod PlanTextExamples

@@ -1,9 +1,12 @@
-//! The history of an archive as it is told: the lines of a plan, and the line that says why there is none.
+//! The history of an archive as it is told: the lines of a plan, the line that says why there is none, and the lines of a journal
+//! that was followed.
 //!
-//! The text is defined in `specs/PlanText.antt`. A plan is written into one vector, in one walk over its steps.
+//! The texts are defined in `specs/PlanText.antt` and `specs/FollowText.antt`. Each is written into one vector, in one walk.
 #![tactic(auto)]
 
+mod followed;
 mod step_lines;
 mod texts;
 
+pub use followed::{counts_text, write_broken_list};
 pub use texts::{misfit_text, plan_text};

@@ -12,7 +12,11 @@ use dist_version::Version;
 use std::alloc::AllocError;
 
 /// Adds a cluster by its member that stands first, or nothing where no cluster has the number.
-fn write_cluster(out: &mut Vec<u8>, space: &Space, cluster: u32) -> Result<(), AllocError>
+pub(crate) fn write_cluster(
+    out: &mut Vec<u8>,
+    space: &Space,
+    cluster: u32,
+) -> Result<(), AllocError>
     ensures { OnOk result (out.new.items ≡ out.old.items ++ cluster_text space.now cluster) }
 {
     let clusters = space.clusters();

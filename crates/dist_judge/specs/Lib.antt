@@ -1,6 +1,7 @@
 pub mod FileKind
 pub mod Judging
 pub mod ClearKindLaws
+pub mod Causes
 pub mod HeadingLaws
 pub mod LineLaws
 pub mod ReadingLaws

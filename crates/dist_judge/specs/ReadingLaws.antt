@@ -24,6 +24,7 @@ use Rattle.dist_cert.specs.Form.{record_text, HasForm, is_end}
 use Rattle.dist_cert.specs.Groups.{clause_of, derived}
 use Rattle.dist_cert.specs.Reading.{ReaderView, WhereTold, PassesWhole, KeepsLimits, IsRecordNext, RecordAnswers}
 use Rattle.dist_cert.specs.Reading.{RecordCause, RecordOfSome, GivesRecord, in_front, text_left}
+use Rattle.dist_judge.specs.Causes.{TextCause}
 use Rattle.dist_judge.specs.ClearKindLaws.{IsClear}
 use Rattle.dist_judge.specs.FileKind.{FileKind, rules_of}
 use Rattle.dist_judge.specs.Judging.{KeepsNumbers, IsReached, IsCompleted, FillsLines, FillsLiterals, StopsAtDerived}
@@ -339,6 +340,16 @@ reads_on a b c first second = record {
   read_faults_stand = omega (arith, first.read_faults_stand, second.read_faults_stand);
   write_faults_stay = second.write_faults_stay ∙ first.write_faults_stay;
 }
+
+-- a cause behind what was read before
+pub later_cause : (entry old new : DeskView) (error : ReadCertError) → OnlyReads entry old → OnlyReads old new
+    → TextCause old new error → TextCause entry new error
+later_cause entry old new (Bad fault) first second cause = tt
+later_cause entry old new (Work ReadFault) first second cause =
+    rose_from entry.read_faults old.read_faults new.read_faults first.read_faults_stand second.read_faults_stand cause
+later_cause entry old new (Work WriteFault) first second cause = cause
+later_cause entry old new (Work NoMemory) first second cause = tt
+later_cause entry old new (Work (TooLarge what)) first second cause = cause
 
 -- what the exit of a `?` returns
 pub by_exit : {X : Type 0} (P : Result X ReadCertError → Type 0) (r : Result X ReadCertError) (error : ReadCertError)

@@ -15,5 +15,5 @@ pub use files::is_held;
 pub use limits::limited;
 pub use numbers::{ClauseLimits, add, clause, has, push, push_all};
 pub use stanzas::repository;
-pub use texts::{LIBRARY, PAIR, PYTHON, TEN, TWO};
+pub use texts::{CHALLENGES, LIBRARY, PAIR, PYTHON, TEN, TWO};
 pub use words::words_of;

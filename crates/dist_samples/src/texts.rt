@@ -14,6 +14,10 @@ pub const TEN: &str =
 pub const LIBRARY: &str =
     "Package: libx\nVersion: 1\n\nPackage: p\nVersion: 1\nDepends: libx (<< 2)\n";
 
+/// A certificate over it: later versions of the library at and above the bound break the program.
+pub const CHALLENGES: &str =
+    "distfuture-certificate 1 challenged plain 10000 2 11 16\nq 1 2\nm 1 2\nc 1 1 0 0\nq 1 3\nm 1 2 3\nq 3 4\nm 3 4 5\nq 3 6\nf 6 12 5 1\nq 3 8\nf 8 12 5 2\nc 2 2 3 0 1 2 1 3 0\ne\n";
+
 /// A stanza of Debian 12.
 pub const PYTHON: &str =
     "Package: python3\nSource: python3-defaults (3.11.2-1)\nVersion: 3.11.2-1+b1\nArchitecture: amd64\nReplaces: python3-minimal (<< 3.1.2-2)\nProvides: python3-profiler\nDepends: python3.11:any (>= 3.11.2-1~),\n libpython3-stdlib (= 3.11.2-1+b1)\nPre-Depends: python3-minimal (= 3.11.2-1+b1)\nTag: devel::interpreter,\n implemented-in::c";

@@ -66,13 +66,13 @@ fn literals_have_places(rt: HostRuntime) {
 
 /// Whether a clause is new under an assumption, by the assumption and by its cone, and that cone has the first three variables.
 fn is_new_by_both(
-    log: &Log,
+    log: &mut Log,
     scratch: &mut Scratch,
     cone: &mut VariableSet,
     assumption: &[Lit],
     line: &[Lit],
 ) -> (bool, bool, bool)
-    requires log { log.now.variables ≡ 5 }
+    requires log { log.old.variables ≡ 5 }
     requires scratch { scratch.old ≡ 5 }
     requires cone { cone.old.variables ≡ 5 }
     requires assumption { IsClauseOver 5 assumption.now }
@@ -87,8 +87,8 @@ fn is_new_by_both(
 }
 
 /// The same under the assumption of the first variable.
-fn is_new_and_reached(alloc: Global, log: &Log, numbers: &[i32]) -> Option<(bool, bool, bool)>
-    requires { log.now.variables ≡ 5 }
+fn is_new_and_reached(alloc: Global, log: &mut Log, numbers: &[i32]) -> Option<(bool, bool, bool)>
+    requires { log.old.variables ≡ 5 }
 {
     let assumption = clause(alloc, 5, &[1])?;
     let line = clause(alloc, 5, numbers)?;
@@ -110,16 +110,16 @@ const NEW: [New; 4] = [
 ];
 
 /// Whether a row is told of a log as it says.
-fn is_told_of(alloc: Global, log: &Log, row: &New) -> Option<bool>
-    requires { log.now.variables ≡ 5 }
+fn is_told_of(alloc: Global, log: &mut Log, row: &New) -> Option<bool>
+    requires { log.old.variables ≡ 5 }
 {
     Some(is_new_and_reached(alloc, log, row.0)? == (row.1, row.1, true))
 }
 
 /// The same of a log with its index or without.
 fn is_told(alloc: Global, row: &New, is_covered: bool) -> Option<bool> {
-    let log = log_of(alloc, is_covered)?;
-    let told = is_told_of(alloc, &log, row);
+    let mut log = log_of(alloc, is_covered)?;
+    let told = is_told_of(alloc, &mut log, row);
     drop(log);
     told
 }
@@ -144,7 +144,6 @@ fn an_index_answers_as_a_walk_does(rt: HostRuntime) {
 fn are_new_in(alloc: Global, log: &mut Log, lines: &[&[i32]]) -> Option<bool>
     requires { log.old.variables ≡ 5 }
 {
-    log.settle();
     for line in lines {
         log.append(&clause(alloc, 5, line)?).ok()?;
     }

@@ -87,16 +87,17 @@ impl Guesses {
     pub(crate) fn next(
         &mut self,
         alloc: Global,
-        log: &Log,
+        log: &mut Log,
         cone: &VariableSet,
         assumptions: &[Lit],
     ) -> Result<Option<Descent>, AllocError>
-        requires same_variables { self.old ≡ log.now.variables }
-        requires assumptions { IsClauseOver log.now.variables assumptions.now }
-        requires cone_variables { cone.now.variables ≡ log.now.variables }
-        requires cone { (v : ℕ) → Contains cone.now.members v ↔ InCone (inputs_of log.now) assumptions.now v }
-        requires lines_follow { EachLineFollows log.now.inputs log.now.clauses }
-        ensures ends { IfOk result (λ r. IfSome r (IsEnd log.now assumptions.now)) }
+        requires same_variables { self.old ≡ log.old.variables }
+        requires assumptions { IsClauseOver log.old.variables assumptions.now }
+        requires cone_variables { cone.now.variables ≡ log.old.variables }
+        requires cone { (v : ℕ) → Contains cone.now.members v ↔ InCone (inputs_of log.old) assumptions.now v }
+        requires lines_follow { EachLineFollows log.old.inputs log.old.clauses }
+        ensures ends { IfOk result (λ r. IfSome r (IsEnd log.old assumptions.now)) }
+        ensures same_log { log.new ≡ log.old }
         ensures same_variables { self.new ≡ self.old }
     {
         if !self.guessing {
@@ -115,17 +116,18 @@ impl Guesses {
     fn tested(
         &mut self,
         alloc: Global,
-        log: &Log,
+        log: &mut Log,
         cone: &VariableSet,
         assumptions: &[Lit],
         turn: Turn,
     ) -> Result<Option<Descent>, AllocError>
-        requires same_variables { self.old ≡ log.now.variables }
-        requires assumptions { IsClauseOver log.now.variables assumptions.now }
-        requires cone_variables { cone.now.variables ≡ log.now.variables }
-        requires cone { (v : ℕ) → Contains cone.now.members v ↔ InCone (inputs_of log.now) assumptions.now v }
-        requires lines_follow { EachLineFollows log.now.inputs log.now.clauses }
-        ensures ends { IfOk result (λ r. IfSome r (IsEnd log.now assumptions.now)) }
+        requires same_variables { self.old ≡ log.old.variables }
+        requires assumptions { IsClauseOver log.old.variables assumptions.now }
+        requires cone_variables { cone.now.variables ≡ log.old.variables }
+        requires cone { (v : ℕ) → Contains cone.now.members v ↔ InCone (inputs_of log.old) assumptions.now v }
+        requires lines_follow { EachLineFollows log.old.inputs log.old.clauses }
+        ensures ends { IfOk result (λ r. IfSome r (IsEnd log.old assumptions.now)) }
+        ensures same_log { log.new ≡ log.old }
         ensures same_variables { self.new ≡ self.old }
     {
         let hints = self.watched.hints();

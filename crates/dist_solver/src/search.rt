@@ -175,7 +175,7 @@ fn search(
             Descent::Model(values) => return Ok(Answer::Found(values)),
             Descent::Refutation(hints) => return Ok(Answer::Refuted(hints)),
             Descent::Lesson(clause, hints) => {
-                learn(log, derived, assumptions, &clause, hints.as_slice())?;
+                learn(log, derived, &clause, hints.as_slice())?;
                 guesses.learned(log.len());
             }
         }
@@ -186,19 +186,20 @@ fn search(
 /// The next end: the one that is guessed, where it passes its test, or else that of a descent from the assumptions.
 fn next_end(
     alloc: Global,
-    log: &Log,
+    log: &mut Log,
     guesses: &mut Guesses,
     trail: &mut Trail,
     cone: &VariableSet,
     assumptions: &[Lit],
 ) -> Result<Descent, AllocError>
-    requires guesses { guesses.old ≡ log.now.variables }
-    requires assumptions { IsClauseOver log.now.variables assumptions.now }
-    requires cone_variables { cone.now.variables ≡ log.now.variables }
-    requires cone { (v : ℕ) → Contains cone.now.members v ↔ InCone (inputs_of log.now) assumptions.now v }
-    requires trail { trail.old.variables ≡ log.now.variables }
-    requires lines_follow { EachLineFollows log.now.inputs log.now.clauses }
-    ensures ends { IfOk result (IsEnd log.now assumptions.now) }
+    requires guesses { guesses.old ≡ log.old.variables }
+    requires assumptions { IsClauseOver log.old.variables assumptions.now }
+    requires cone_variables { cone.now.variables ≡ log.old.variables }
+    requires cone { (v : ℕ) → Contains cone.now.members v ↔ InCone (inputs_of log.old) assumptions.now v }
+    requires trail { trail.old.variables ≡ log.old.variables }
+    requires lines_follow { EachLineFollows log.old.inputs log.old.clauses }
+    ensures ends { IfOk result (IsEnd log.old assumptions.now) }
+    ensures same_log { log.new ≡ log.old }
     ensures same_variables { trail.new.variables ≡ trail.old.variables }
     ensures same_guesses { guesses.new ≡ guesses.old }
 {
@@ -212,12 +213,10 @@ fn next_end(
 fn learn(
     log: &mut Log,
     derived: &mut Derived,
-    assumptions: &[Lit],
     clause: &[Lit],
     hints: &[u32],
 ) -> Result<(), AskError>
-    requires assumptions { IsClauseOver log.old.variables assumptions.now }
-    requires clause { IsClauseOver log.old.variables clause.now }
+    requires { IsClauseOver log.old.variables clause.now }
     ensures { Learns log.old log.new derived.old derived.new clause.now hints.now result }
 {
     let number = log.len() + 1;
@@ -226,17 +225,5 @@ fn learn(
         derived.pop();
         return Err(AskError::from(cause));
     }
-    settle(log, assumptions);
     Ok(())
-}
-
-/// Takes in what the lines give, by themselves and under the first assumption, from which the next test of a lesson begins.
-fn settle(log: &mut Log, assumptions: &[Lit])
-    requires { IsClauseOver log.old.variables assumptions.now }
-    ensures { log.new ≡ log.old }
-{
-    log.settle();
-    if let Some(first) = assumptions.first() {
-        log.settle_under(*first);
-    }
 }

@@ -92,17 +92,18 @@ impl Tests {
     /// Whether a clause follows by hints, not too many, and is new. The cone of the assumptions is given.
     pub(crate) fn is_lesson(
         &mut self,
-        log: &Log,
+        log: &mut Log,
         cone: &VariableSet,
         assumptions: &[Lit],
         clause: &[Lit],
         hints: &[u32],
     ) -> bool
-        requires same_variables { self.old ≡ log.now.variables }
-        requires assumptions { IsClauseOver log.now.variables assumptions.now }
-        requires cone_variables { cone.now.variables ≡ log.now.variables }
-        requires cone { (v : ℕ) → Contains cone.now.members v ↔ InCone (inputs_of log.now) assumptions.now v }
-        ensures lesson { IsTrue result → IsLesson log.now assumptions.now clause.now hints.now }
+        requires same_variables { self.old ≡ log.old.variables }
+        requires assumptions { IsClauseOver log.old.variables assumptions.now }
+        requires cone_variables { cone.now.variables ≡ log.old.variables }
+        requires cone { (v : ℕ) → Contains cone.now.members v ↔ InCone (inputs_of log.old) assumptions.now v }
+        ensures lesson { IsTrue result → IsLesson log.old assumptions.now clause.now hints.now }
+        ensures same_log { log.new ≡ log.old }
         ensures same_variables { self.new ≡ self.old }
     {
         is_clause(&mut self.variables, log.variables(), clause)

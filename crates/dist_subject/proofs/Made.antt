@@ -20,7 +20,8 @@ use Rattle.dist_space_clauses.specs.SpaceSet as futures
 use Rattle.dist_cert.specs.declared.records.CertKind.{CertKind}
 use Rattle.dist_cert.specs.declared.records.CertKind.TheVariants as kinds
 use Rattle.dist_subject.specs.Basis.{IsBasisOf, IsLaterOf, Later, Today}
-use Rattle.dist_subject.specs.Inputs.{AreInputsOf, IsLarge, large_by}
+use Rattle.dist_judge.specs.Causes.{IsLarge}
+use Rattle.dist_subject.specs.Inputs.{AreInputsOf, large_by}
 use Rattle.dist_subject.specs.InputsPrivate.{IsSpaceWithin, PassesSpace}
 use Rattle.dist_subject.specs.Limited.{PassesLater, PassesPresent}
 

@@ -5,7 +5,6 @@ use Rattle.dist_clause.specs.declared.clause_set.PushError.{PushError}
 use Rattle.dist_clause.specs.declared.clause_set.PushError.TheVariants.{TooManyClauses, TooManyLiterals}
 use Rattle.dist_clause.specs.declared.clause_set.PushError.TheVariants as push
 use Rattle.dist_outside.specs.declared.limits.Limits.{Limits}
-use Rattle.dist_outside.specs.declared.trouble.What.{What}
 use Rattle.dist_outside.specs.declared.trouble.What.TheVariants.{Clauses, Literals}
 use Rattle.dist_outside.specs.declared.trouble.WorkError.{WorkError}
 use Rattle.dist_outside.specs.declared.trouble.WorkError.TheVariants.{NoMemory, TooLarge}
@@ -21,12 +20,6 @@ pub record AreInputsOf (r : PackageList) (kind : CertKind) (essential : Bool) (l
   pub kept : AreInputsWithin limits r basis
   pub clauses : set.clauses ≡ (matter_of r basis).inputs
   pub variables : set.variables ≡ (matter_of r basis).variables
-
--- a number is passed, or there is no memory
-abbrev pub IsLarge : (What → Type 0) → WorkError → Type 0
-IsLarge Passes (TooLarge what) = Passes what
-IsLarge Passes NoMemory = Unit {0}
-IsLarge Passes error = ⊥
 
 -- why work stops where clauses pass a limit
 abbrev pub large_by : PushError → WorkError

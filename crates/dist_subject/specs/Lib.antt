@@ -1,5 +1,4 @@
 pub mod Present
-pub mod Unclaimed
 pub mod Later
 pub mod Basis
 pub mod PresentExamples

@@ -11,7 +11,8 @@ ghost use Rattle.dist_space_clauses.specs.Ends.{AreEndsOf};
 ghost use Rattle.dist_space_clauses.specs.SpaceClauses.{IsDemand};
 ghost use Rattle.dist_space_clauses.specs.SpaceSet.{IsSetOf};
 ghost use Rattle.dist_subject.specs.Basis.{Later, Today};
-ghost use Rattle.dist_subject.specs.Inputs.{AreInputsOf, IsLarge, large_by};
+ghost use Rattle.dist_judge.specs.Causes.{IsLarge};
+ghost use Rattle.dist_subject.specs.Inputs.{AreInputsOf, large_by};
 ghost use Rattle.dist_subject.specs.InputsPrivate.{IsSpaceWithin, PassesSpace};
 ghost use Rattle.dist_subject.specs.Limited.{AreStated, OfSpace, PassesLater, PassesPresent};
 

@@ -2,7 +2,7 @@
 use dist_app::Status;
 use dist_top_rows::{
     After, Ended, Failing, NOTHING, Row, SINK_STEP, carried_out, check_rows, classes_rows,
-    health_rows, steps_rows, strong_rows, wrong_in,
+    follow_rows, health_rows, steps_rows, strong_rows, wrong_in,
 };
 use std::alloc::AllocError;
 use std::process::Abort;
@@ -142,7 +142,7 @@ fn each_call(rt: &(impl Abort + AllocGlobal), walk: &Walk) -> Result<(), AllocEr
     Ok(())
 }
 
-const WALKS: [Walk; 14] = [
+const WALKS: [Walk; 17] = [
     // A start, eight reads of 56 bytes, and one that comes to the end.
     Walk {
         name: "strong, its desk",
@@ -195,7 +195,22 @@ const WALKS: [Walk; 14] = [
         device: Device::Out,
         row: steps_rows::MOVED,
     },
+    Walk {
+        name: "follow, its desk",
+        device: Device::Desk(u32::MAX),
+        row: follow_rows::FOLLOWED,
+    },
+    Walk {
+        name: "follow, out",
+        device: Device::Out,
+        row: follow_rows::FOLLOWED,
+    },
     // A line that is cut changes no status.
+    Walk {
+        name: "follow, err",
+        device: Device::Err,
+        row: follow_rows::NOT_ABOVE,
+    },
     Walk {
         name: "strong, err",
         device: Device::Err,

@@ -4,6 +4,7 @@
 
 pub mod check_rows;
 pub mod classes_rows;
+pub mod follow_rows;
 pub mod health_rows;
 mod row;
 mod running;

@@ -1,8 +1,10 @@
 //! Worked rows of `check`: certificates that are accepted, refused, too large, or not read.
 use dist_app::Status;
 use dist_outside::What;
-use dist_samples::LIBRARY;
-use dist_top_rows::check_rows::{BAD_LINE, MISSING, REFUSED, TEN};
+use dist_samples::{CHALLENGES, LIBRARY};
+use dist_top_rows::check_rows::{
+    BAD_LINE, MAYBE_CHALLENGED, MAYBE_OUTDATED, MISSING, REFUSED, TEN,
+};
 use dist_top_rows::{Failing, NOTHING, Row, Table, first_wrong};
 use std::test::Fail;
 
@@ -51,9 +53,7 @@ undecided: []
 // Later versions of a library at and above a bound break the program that needs it below.
 const CHALLENGED: Row = Row {
     packages: LIBRARY,
-    cert: Some(
-        "distfuture-certificate 1 challenged plain 10000 2 11 16\nq 1 2\nm 1 2\nc 1 1 0 0\nq 1 3\nm 1 2 3\nq 3 4\nm 3 4 5\nq 3 6\nf 6 12 5 1\nq 3 8\nf 8 12 5 2\nc 2 2 3 0 1 2 1 3 0\ne\n",
-    ),
+    cert: Some(CHALLENGES),
     out: "report: \"challenged\"
 limit: 10000
 packages: 2
@@ -73,50 +73,6 @@ undecided: []
 undecided_classes: []
 ",
     ..TEN
-};
-
-// Package a, which needs b or c as they are, b, which needs c, and c and d. One derived line leaves it undecided whether a is
-// outdated, or whether a later d breaks it.
-const MAYBE_OUTDATED: Row = Row {
-    packages: "Package: a\nVersion: 1\nDepends: b (= 1) | c (= 1)\n\nPackage: b\nVersion: 1\nDepends: c (= 1)\n\nPackage: c\nVersion: 1\n\nPackage: d\nVersion: 1\n",
-    cert: Some(
-        "distfuture-certificate 1 outdated plain 1 4 13 14\nq 2\nd 4 -2 0 9 10\nu\ny 1\nm 1 3 4\na 2 1\na 3 1\nm 1 5\na 4 2\ne\n",
-    ),
-    status: Status::DoneWithUndecided,
-    out: "report: \"outdated\"
-limit: 1
-packages: 4
-outdated: []
-undecided:
-  - \"a=1\"
-",
-    ..TEN
-};
-
-const MAYBE_CHALLENGED: Row = Row {
-    cert: Some(
-        "distfuture-certificate 1 challenged plain 1 4 13 14\nm 1 2 4 5\nq 2 10\nf 5 10 9\nq 2 12\nd 4 -2 0 9 10\nu\nc 1 1 0 3 1 0 4 1\nm 1 3 4\nq 3 10\nf 5 10\nc 2 2 0 3 1 0\nm 1 4\nc 3 3 0 0\nm 1 5\nc 4 4 0 0\ne\n",
-    ),
-    out: "report: \"challenged\"
-limit: 1
-packages: 4
-uninstallable: []
-challenged:
-  - cluster: \"c=1\"
-    class: \">> 1\"
-    example: \"1-0A\"
-    breaks:
-      - \"a=1\"
-      - \"b=1\"
-undecided: []
-undecided_classes:
-  - cluster: \"d=1\"
-    class: \">> 1\"
-    example: \"1-0A\"
-    breaks:
-      - \"a=1\"
-",
-    ..MAYBE_OUTDATED
 };
 
 const ON_FUTURES: [Row; 4] = [OUTDATED, CHALLENGED, MAYBE_OUTDATED, MAYBE_CHALLENGED];

@@ -1,12 +1,13 @@
 //! Each status with its number and its line, but for want of memory, which has a file of its own.
 use dist_top_rows::{
-    Row, check_rows, classes_rows, health_rows, steps_rows, strong_rows, words_rows, wrong_of,
+    Row, check_rows, classes_rows, follow_rows, health_rows, steps_rows, strong_rows, words_rows,
+    wrong_of,
 };
 use std::alloc::AllocError;
 use std::process::Abort;
 use std::test::Fail;
 
-const NUMBERED: [(u8, Row); 11] = [
+const NUMBERED: [(u8, Row); 12] = [
     (0, check_rows::TEN),
     (1, strong_rows::UNDECIDED),
     (2, words_rows::NO_COMMAND),
@@ -17,6 +18,7 @@ const NUMBERED: [(u8, Row); 11] = [
     (8, strong_rows::CUT_SHORT),
     (9, health_rows::UNMET),
     (10, health_rows::BAD_THIRD_LINE),
+    (11, follow_rows::NOT_ABOVE),
     (12, steps_rows::MISFIT),
 ];
 

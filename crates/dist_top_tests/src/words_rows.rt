@@ -3,7 +3,7 @@ use dist_top_rows::words_rows::{COMMAND, NO_COMMAND};
 use dist_top_rows::{Row, Table, first_wrong};
 use std::test::Fail;
 
-const NO_COMMANDS: [Row; 11] = [
+const NO_COMMANDS: [Row; 13] = [
     Row {
         words: &[],
         ..NO_COMMAND
@@ -43,6 +43,14 @@ const NO_COMMANDS: [Row; 11] = [
     },
     Row {
         words: &["steps", "packages", "list", "--essential"],
+        ..NO_COMMAND
+    },
+    Row {
+        words: &["follow", "packages", "list"],
+        ..NO_COMMAND
+    },
+    Row {
+        words: &["follow", "packages", "cert", "list", "--limit", "3"],
         ..NO_COMMAND
     },
 ];

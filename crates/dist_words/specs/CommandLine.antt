@@ -11,3 +11,4 @@ pub data CommandLine : Type 0 where
   Check : (packages cert : List ℕ) → CommandLine
   Try : (size seed : ℕ) → CommandLine
   Steps : (packages later : List ℕ) → CommandLine
+  Follow : (packages cert journal : List ℕ) → CommandLine

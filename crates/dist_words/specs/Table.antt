@@ -1,14 +1,15 @@
 -- The table of the commands: for each word the number of files and the options that may stand with it.
 --
---   command       files             options
---   health        PACKAGES LIST     none
---   classes       PACKAGES          none
---   strong        PACKAGES CERT     --limit, --essential
---   outdated      PACKAGES CERT     --limit, --essential
---   challenged    PACKAGES CERT     --limit, --essential
---   check         PACKAGES CERT     none
---   try           none              --size and --seed, both needed
---   steps         PACKAGES LATER    none
+--   command       files                    options
+--   health        PACKAGES LIST            none
+--   classes       PACKAGES                 none
+--   strong        PACKAGES CERT            --limit, --essential
+--   outdated      PACKAGES CERT            --limit, --essential
+--   challenged    PACKAGES CERT            --limit, --essential
+--   check         PACKAGES CERT            none
+--   try           none                     --size and --seed, both needed
+--   steps         PACKAGES LATER           none
+--   follow        PACKAGES CERT JOURNAL    none
 use Rattle.std.specs.Prelude.{◌≡◌, ℕ, ◌&&◌, Bool, not, List, [], ◌∷◌, Option, Some, None, is_some, if◌then◌else◌, codes}
 use Rattle.std.specs.Prelude.{unwrap_or}
 use Rattle.std.specs.Str.{bytes_eq}
@@ -18,7 +19,7 @@ use Rattle.dist_cert.specs.declared.records.CertKind.TheVariants.{Strong, Outdat
 use Rattle.clap.specs.Walk.{Text, is_empty}
 use Rattle.clap.specs.Faults.{fault_of}
 use Rattle.dist_words.specs.Clap.{Options, Taken, simple_command, taken}
-use Rattle.dist_words.specs.CommandLine.{CommandLine, Health, Classes, Sweep, Check, Try, Steps}
+use Rattle.dist_words.specs.CommandLine.{CommandLine, Health, Classes, Sweep, Check, Try, Steps, Follow}
 
 -- ---- options
 
@@ -45,6 +46,11 @@ with_one command files = None
 abbrev pub with_two : (Text → Text → CommandLine) → List Text → Option CommandLine
 with_two command (first ∷ second ∷ []) = Some (command first second)
 with_two command files = None
+
+-- a command of three files
+abbrev pub with_three : (Text → Text → Text → CommandLine) → List Text → Option CommandLine
+with_three command (first ∷ second ∷ third ∷ []) = Some (command first second third)
+with_three command files = None
 
 -- a command of no file
 abbrev pub with_none : Option CommandLine → List Text → Option CommandLine
@@ -83,7 +89,8 @@ in_table word files options =
     else (if bytes_eq word (codes "try") then where_allowed (has_no_limit options)
     (with_none (seeded options.size options.seed) files)
     else (if bytes_eq word (codes "steps") then where_allowed (has_no_option options) (with_two Steps files)
-    else None)))))))
+    else (if bytes_eq word (codes "follow") then where_allowed (has_no_option options) (with_three Follow files)
+    else None))))))))
 
 -- the command that the table has for what was taken
 abbrev pub accepted : Taken → Option CommandLine

@@ -1,6 +1,6 @@
 -- Worked examples of the table.
 use Rattle.std.specs.Prelude.{◌≡◌, true, false, [], ◌∷◌, Some, None, codes, refl}
-use Rattle.dist_words.specs.CommandLine.{Steps, Sweep, Try}
+use Rattle.dist_words.specs.CommandLine.{Follow, Steps, Sweep, Try}
 use Rattle.dist_cert.specs.declared.records.CertKind.TheVariants.{Strong, Challenged}
 use Rattle.dist_words.specs.Table.{in_table}
 
@@ -46,3 +46,9 @@ steps_takes_a_later_file = refl
 steps_takes_no_option : in_table (codes "steps") (codes "f" ∷ codes "g" ∷ [])
     (record { limit = None; size = None; seed = None; essential = true }) ≡ None
 steps_takes_no_option = refl
+
+-- `follow f g h`
+follow_takes_three_files : in_table (codes "follow") (codes "f" ∷ codes "g" ∷ codes "h" ∷ [])
+    (record { limit = None; size = None; seed = None; essential = false })
+    ≡ Some (Follow (codes "f") (codes "g") (codes "h"))
+follow_takes_three_files = refl

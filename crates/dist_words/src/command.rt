@@ -43,6 +43,14 @@ pub struct StepsFiles<'a> {
     pub later: &'a str,
 }
 
+/// The three files of `follow PACKAGES CERT JOURNAL`.
+#[derive(Clone, Copy, Debug)]
+pub struct FollowFiles<'a> {
+    pub packages: &'a str,
+    pub cert: &'a str,
+    pub journal: &'a str,
+}
+
 /// A command with the names of its files and its options.
 #[derive(Clone, Copy, Debug)]
 pub enum Command<'a> {
@@ -52,4 +60,5 @@ pub enum Command<'a> {
     Check(CertFiles<'a>),
     Try(TryWords),
     Steps(StepsFiles<'a>),
+    Follow(FollowFiles<'a>),
 }

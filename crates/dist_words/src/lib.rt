@@ -9,6 +9,6 @@ mod error;
 mod table;
 mod taken;
 
-pub use command::{CertFiles, Command, HealthFiles, StepsFiles, SweepWords, TryWords};
+pub use command::{CertFiles, Command, FollowFiles, HealthFiles, StepsFiles, SweepWords, TryWords};
 pub use error::WordsError;
 pub use table::command_of;

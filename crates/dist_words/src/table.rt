@@ -4,13 +4,15 @@ ghost use Rattle.clap.specs.Matches.{found_of};
 ghost use Rattle.clap.specs.Walk.{rows_of};
 ghost use Rattle.dist_words.specs.Clap.{taken_of};
 ghost use Rattle.dist_words.specs.SimpleCommandPrivate.{IsMatched};
-ghost use Rattle.dist_words.specs.CommandLine.{Health, Classes, Check, Steps};
+ghost use Rattle.dist_words.specs.CommandLine.{Health, Classes, Check, Follow, Steps};
 ghost use Rattle.dist_words.specs.Lines.{HasLimit, IsLimit, IsSize, line_of, names, seen};
-ghost use Rattle.dist_words.specs.Table.{IsBadWords, accepted, command_of, in_table, has_no_limit, has_no_option, has_no_seed, seeded, swept, where_allowed, with_none, with_one, with_two};
+ghost use Rattle.dist_words.specs.Table.{IsBadWords, accepted, command_of, in_table, has_no_limit, has_no_option, has_no_seed, seeded, swept, where_allowed, with_none, with_one, with_three, with_two};
 ghost use Rattle.dist_words.specs.declared.error.WordsError.TheVariants.{BadWords};
 
 use crate::clap_command::matches_of;
-use crate::command::{CertFiles, Command, HealthFiles, StepsFiles, SweepWords, TryWords};
+use crate::command::{
+    CertFiles, Command, FollowFiles, HealthFiles, StepsFiles, SweepWords, TryWords,
+};
 use crate::error::WordsError;
 use crate::taken::{Options, options_of};
 use clap::ArgMatches;
@@ -69,6 +71,8 @@ fn in_table<'a>(word: &str, files: &[&'a str], options: Options) -> Option<Comma
         seeded(files, options)
     } else if word == "steps" {
         steps(files, options)
+    } else if word == "follow" {
+        follow(files, options)
     } else {
         None
     }
@@ -169,6 +173,22 @@ fn steps<'a>(files: &[&'a str], options: Options) -> Option<Command<'a>>
     match files {
         [packages, later] if has_no_option(options) => {
             Some(Command::Steps(StepsFiles { packages, later }))
+        }
+        _ => None,
+    }
+}
+
+/// `follow PACKAGES CERT JOURNAL`.
+fn follow<'a>(files: &[&'a str], options: Options) -> Option<Command<'a>>
+    ensures { option_map line_of result ≡ where_allowed (has_no_option (seen options)) (with_three Follow (names files.now)) }
+{
+    match files {
+        [packages, cert, journal] if has_no_option(options) => {
+            Some(Command::Follow(FollowFiles {
+                packages,
+                cert,
+                journal,
+            }))
         }
         _ => None,
     }

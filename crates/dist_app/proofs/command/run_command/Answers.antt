@@ -1,8 +1,9 @@
 use Rattle.dist_app.specs.Check.{CheckStages, Reports}
+use Rattle.dist_app.specs.Follow.{FollowStages, TellsFollowed}
 use Rattle.dist_app.specs.Health.{HealthStages, Judges}
-use Rattle.dist_app.specs.Steps.{Compares, StepsStages}
+use Rattle.dist_app.specs.Steps.{StepsStages, TellsLater}
 use Rattle.dist_app.specs.Try.{Tries, TryStages}
-use Rattle.dist_words.specs.CommandLine.{Check, Health, Steps, Try}
+use Rattle.dist_words.specs.CommandLine.{Check, Follow, Health, Steps, Try}
 use Rattle.dist_outside.specs.DeskView.{DeskView}
 use Rattle.dist_app.proofs.Due.{apart_stops, ok_more, err_more, read_answers, due_stops}
 use Rattle.dist_app.proofs.command.run_command.Goals as goal
@@ -50,5 +51,20 @@ pub returns-in-Steps-clause-stops : goal.returns-in-Steps-clause-stops
 returns-in-Steps-clause-stops g c =
     let desk : DeskView = g.D.Desk.view c.args.desk.now in
     rw c.in-Steps.is (err_more c.run_steps.result _ _ (λ why. due_stops (Steps c.in-Steps.files.packages.now c.in-Steps.files.later.now) c.args.limits.now
-    (StepsStages desk.files c.args.limits.now c.in-Steps.files.packages.now c.in-Steps.files.later.now (Compares desk.files))
+    (StepsStages desk.files c.args.limits.now c.in-Steps.files.packages.now c.in-Steps.files.later.now (TellsLater desk.files))
     desk (g.D.Desk.view c.run_steps.new.desk) why (λ ending decides. decides) (λ apart. apart) c.run_steps.ensures.only_reads) c.run_steps.ensures.due)
+
+pub returns-in-Follow-clause-answers : goal.returns-in-Follow-clause-answers
+returns-in-Follow-clause-answers g c =
+    rw c.in-Follow.is (ok_more c.run_follow.result _ _ (λ answer. read_answers
+    (Follow c.in-Follow.files.packages.now c.in-Follow.files.cert.now c.in-Follow.files.journal.now) c.args.limits.now (g.D.Desk.view c.args.desk.now)
+    _ answer.status answer.text.items c.run_follow.ensures.only_reads) c.run_follow.ensures.answers)
+
+pub returns-in-Follow-clause-stops : goal.returns-in-Follow-clause-stops
+returns-in-Follow-clause-stops g c =
+    let desk : DeskView = g.D.Desk.view c.args.desk.now in
+    rw c.in-Follow.is (err_more c.run_follow.result _ _ (λ why. due_stops
+    (Follow c.in-Follow.files.packages.now c.in-Follow.files.cert.now c.in-Follow.files.journal.now) c.args.limits.now
+    (FollowStages desk.files c.args.limits.now c.in-Follow.files.packages.now c.in-Follow.files.cert.now c.in-Follow.files.journal.now
+    (TellsFollowed desk.files c.args.limits.now.stanzas))
+    desk (g.D.Desk.view c.run_follow.new.desk) why (λ ending decides. decides) (λ apart. apart) c.run_follow.ensures.only_reads) c.run_follow.ensures.due)

@@ -1,9 +1,10 @@
 use Rattle.std.proofs.Common.{map, string_bytes, subst, sym}
-use Rattle.dist_app.specs.Headline.{CheckIsProved, StepsAreProved, SweepIsProved}
+use Rattle.dist_app.specs.Headline.{CheckIsProved, FollowIsProved, StepsAreProved, SweepIsProved}
 use Rattle.dist_app.specs.Run.{Runs}
 use Rattle.dist_app.specs.declared.status.Status.{Status}
+use Rattle.dist_app.proofs.CommandLaws.{one-space}
 use Rattle.dist_app.proofs.Completes.{run_completes}
-use Rattle.dist_app.proofs.Headlines.{check_proved, check_refused, steps_proved, steps_refused, sweep_proved, sweep_refused}
+use Rattle.dist_app.proofs.Headlines.{check_proved, check_refused, follow_proved, follow_refused, steps_proved, steps_refused, sweep_proved, sweep_refused}
 use Rattle.dist_app.proofs.Runs.{answered_runs, refused_runs}
 use Rattle.dist_app.proofs.top_call.run_with.Goals as goal
 
@@ -14,6 +15,8 @@ returns-in-Ok-clause-runs g c =
       lists = c.lists_are_exact.ensures;
       certificates = c.texts_have_one_answer.ensures;
       numbers = c.first_numbers_are_one.ensures.one;
+      spaces = one-space c.latest_is_one.ensures.one c.spaces_are_one.ensures;
+      journals = c.journals_have_one_end.ensures;
     }) _
     c.args.limits.now c.in-Ok.status (g.D.Desk.view c.args.desk.now) (g.D.Desk.view c.carry_out.new.desk) (g.W.Sink.view c.args.out.now)
     (g.W.Sink.view c.carry_out.new.out)
@@ -29,6 +32,8 @@ returns-in-Err-clause-runs g c =
       lists = c.lists_are_exact.ensures;
       certificates = c.texts_have_one_answer.ensures;
       numbers = c.first_numbers_are_one.ensures.one;
+      spaces = one-space c.latest_is_one.ensures.one c.spaces_are_one.ensures;
+      journals = c.journals_have_one_end.ensures;
     }) _
     c.args.limits.now (g.D.Desk.view c.args.desk.now) (g.D.Desk.view c.carry_out.new.desk) (g.W.Sink.view c.args.out.now) (g.W.Sink.view c.carry_out.new.out)
     c.in-Err.refusal c.in-Err.ensures.ends c.write_refusal.result (g.E.Sink.view c.args.err.now) (g.E.Sink.view c.write_refusal.new.err) c.in-Err.ensures.leaves
@@ -76,6 +81,20 @@ returns-in-Err-clause-steps g c =
     (steps_refused _ c.args.limits.now c.in-Err.refusal (g.D.Desk.view c.args.desk.now) (g.D.Desk.view c.carry_out.new.desk) (g.W.Sink.view c.args.out.now)
     (g.W.Sink.view c.carry_out.new.out))
 
+pub returns-in-Ok-clause-follow : goal.returns-in-Ok-clause-follow
+returns-in-Ok-clause-follow g c =
+    follow_proved _ c.args.limits.now c.in-Ok.status (g.D.Desk.view c.args.desk.now) (g.D.Desk.view c.carry_out.new.desk) (g.W.Sink.view c.args.out.now)
+    (g.W.Sink.view c.carry_out.new.out)
+    c.in-Ok.ensures.ends
+
+pub returns-in-Err-clause-follow : goal.returns-in-Err-clause-follow
+returns-in-Err-clause-follow g c =
+    subst (λ (s : Status). FollowIsProved (map string_bytes c.args.words.now) c.args.limits.now s (g.D.Desk.view c.args.desk.now)
+    (g.D.Desk.view c.carry_out.new.desk) (g.W.Sink.view c.args.out.now) (g.W.Sink.view c.carry_out.new.out))
+    (sym c.status-status.ensures)
+    (follow_refused _ c.args.limits.now c.in-Err.refusal (g.D.Desk.view c.args.desk.now) (g.D.Desk.view c.carry_out.new.desk) (g.W.Sink.view c.args.out.now)
+    (g.W.Sink.view c.carry_out.new.out))
+
 pub returns-in-Ok-clause-hard : goal.returns-in-Ok-clause-hard
 returns-in-Ok-clause-hard g c = λ r basis. c.undecided_questions_are_hard.ensures r basis c.args.limits.now
 
@@ -97,6 +116,8 @@ returns-in-Ok-clause-complete g c =
         lists = c.lists_are_exact.ensures;
         certificates = c.texts_have_one_answer.ensures;
         numbers = c.first_numbers_are_one.ensures.one;
+        spaces = one-space c.latest_is_one.ensures.one c.spaces_are_one.ensures;
+        journals = c.journals_have_one_end.ensures;
       };
       health = c.one_health.ensures;
       budgets = c.budgets_are_enough.ensures;
@@ -115,6 +136,8 @@ returns-in-Err-clause-complete g c =
         lists = c.lists_are_exact.ensures;
         certificates = c.texts_have_one_answer.ensures;
         numbers = c.first_numbers_are_one.ensures.one;
+        spaces = one-space c.latest_is_one.ensures.one c.spaces_are_one.ensures;
+        journals = c.journals_have_one_end.ensures;
       };
       health = c.one_health.ensures;
       budgets = c.budgets_are_enough.ensures;

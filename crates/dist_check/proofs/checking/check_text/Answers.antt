@@ -8,11 +8,12 @@ use Rattle.dist_outside.specs.Reading.{bytes_left}
 use Rattle.dist_cert.specs.declared.faults.ReadCertError.{ReadCertError}
 use Rattle.dist_cert.specs.Reading.{text_left}
 use Rattle.dist_check.specs.declared.checking.Checked.{Checked}
-use Rattle.dist_check.specs.Checking.{LargeCause, TextAnswers, TextCause}
+use Rattle.dist_check.specs.Checking.{LargeCause, TextAnswers}
+use Rattle.dist_judge.specs.Causes.{TextCause}
 use Rattle.dist_judge.specs.Judging.{OfText}
-use Rattle.dist_judge.specs.ReadingLaws.{by_exit, nothing_read}
+use Rattle.dist_judge.specs.ReadingLaws.{by_exit, later_cause, nothing_read}
 use Rattle.dist_check.proofs.CheckSteps.{header-stops, start-stops, starts-checked}
-use Rattle.dist_check.proofs.CheckText.{accepted-means, completed-alike, later-cause}
+use Rattle.dist_check.proofs.CheckText.{accepted-means, completed-alike}
 use Rattle.dist_check.proofs.LargeCauses.{header-large, start-large}
 use Rattle.dist_check.proofs.checking.check_text.Goals as goal
 
@@ -75,7 +76,7 @@ returns-in_err-claims-clause-cause g c =
     let new : DeskView = g.D.Desk.view c.claims_behind.new.desk in
     by_exit (λ (r : Result Checked ReadCertError). IfErr r (TextCause old new)) c.from_residual-in_err-claims.result c.in_err-claims.field-0.0
     c.from_residual-in_err-claims.ensures.1
-    (later-cause old middle new c.in_err-claims.field-0.0 c.header.ensures.only_reads c.claims_behind.ensures.only_reads c.in_err-claims.ensures.cause)
+    (later_cause old middle new c.in_err-claims.field-0.0 c.header.ensures.only_reads c.claims_behind.ensures.only_reads c.in_err-claims.ensures.cause)
 
 pub returns-clause-text : goal.returns-clause-text
 returns-clause-text g c =

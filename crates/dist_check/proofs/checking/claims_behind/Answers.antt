@@ -7,7 +7,8 @@ use Rattle.dist_cert.specs.declared.faults.ReadCertError.{ReadCertError}
 use Rattle.dist_cert.specs.declared.faults.ReadCertError.TheVariants.{Work}
 use Rattle.dist_cert.specs.declared.records.Claim.{Claim}
 use Rattle.dist_cert.specs.declared.records.Header.{Header}
-use Rattle.dist_check.specs.Checking.{LargeCause, TextAnswers, TextCause}
+use Rattle.dist_check.specs.Checking.{LargeCause, TextAnswers}
+use Rattle.dist_judge.specs.Causes.{TextCause}
 use Rattle.dist_judge.specs.Judging.{OfText}
 use Rattle.dist_judge.specs.ReadingLaws.{by_exit}
 use Rattle.dist_check.proofs.CheckText.{completed-alike, no-memory}

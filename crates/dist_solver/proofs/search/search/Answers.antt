@@ -1,4 +1,4 @@
-use Rattle.std.proofs.Common.{ℕ, ◌↔◌, length, ap, sym, subst, ◌∙◌, arith}
+use Rattle.std.proofs.Common.{◌≡◌, ℕ, ◌↔◌, ◌+◌, [], ◌∷◌, ◌++◌, length, ap, sym, subst, ◌∙◌, arith}
 use Rattle.std.specs.List.{Contains}
 use Rattle.std.proofs.lemmas.List.{length_push}
 use Rattle.dist_derive.specs.ClauseLog.{ClauseLog}
@@ -21,6 +21,18 @@ returns-in-Model-clause-answer c =
     model_of_old c.args.log.now c.loop.log c.loop.derived c.args.assumptions.now c.loop.counter c.loop.invariant.adds c.in-Model.values
     c.len-clauses.ensures.within.inputs_within model
 
+pub returns-in_err-values-clause-lines_follow : goal.returns-in_err-values-clause-lines_follow
+returns-in_err-values-clause-lines_follow c =
+    subst (λ (l : ClauseLog). EachLineFollows l.inputs l.clauses) (sym c.next_end.ensures.same_log) c.loop.invariant.lines_follow
+
+pub returns-in-Model-clause-lines_follow : goal.returns-in-Model-clause-lines_follow
+returns-in-Model-clause-lines_follow c =
+    subst (λ (l : ClauseLog). EachLineFollows l.inputs l.clauses) (sym c.next_end.ensures.same_log) c.loop.invariant.lines_follow
+
+pub returns-in-Refutation-clause-lines_follow : goal.returns-in-Refutation-clause-lines_follow
+returns-in-Refutation-clause-lines_follow c =
+    subst (λ (l : ClauseLog). EachLineFollows l.inputs l.clauses) (sym c.next_end.ensures.same_log) c.loop.invariant.lines_follow
+
 pub loop-preserved : goal.loop-preserved
 loop-preserved c =
     let log = c.loop.log in
@@ -28,7 +40,9 @@ loop-preserved c =
     let lesson = subst (λ e. IsEnd log assumptions e) c.in-Lesson.is c.in_ok-values.ensures.ends in
     let as_passed = subst (λ cl. IsLesson log assumptions cl c.as_slice.result.now) (sym c.deref.ensures.value)
     (subst (λ hs. IsLesson log assumptions c.in-Lesson.clause.items hs) (sym c.as_slice.ensures) lesson) in
-    let learned = c.in_ok-learn-in-Lesson.ensures in
+    let learned = subst (λ (l : ClauseLog). (c.learn.new.log ≡ record l { clauses = l.clauses ++ c.deref.result.now ∷ [] })
+    × (c.learn.new.derived ≡ c.loop.derived ++ record { line = length l.clauses + 1; hints = c.as_slice.result.now } ∷ []))
+    c.next_end.ensures.same_log c.in_ok-learn-in-Lesson.ensures in
     record {
       adds = adds_more c.args.log.now log c.loop.derived assumptions c.loop.counter c.loop.invariant.adds c.learn.new.log c.learn.new.derived c.deref.result.now
           c.as_slice.result.now as_passed learned.0 learned.1;
@@ -41,5 +55,5 @@ loop-preserved c =
     }
 
 pub returns-in_err-learn-in-Lesson-clause-lines_follow : goal.returns-in_err-learn-in-Lesson-clause-lines_follow
-returns-in_err-learn-in-Lesson-clause-lines_follow c = subst (λ (l : ClauseLog). EachLineFollows l.inputs l.clauses) (sym c.in_err-learn-in-Lesson.ensures.0)
-    c.loop.invariant.lines_follow
+returns-in_err-learn-in-Lesson-clause-lines_follow c = subst (λ (l : ClauseLog). EachLineFollows l.inputs l.clauses)
+    (sym (c.in_err-learn-in-Lesson.ensures.0 ∙ c.next_end.ensures.same_log)) c.loop.invariant.lines_follow

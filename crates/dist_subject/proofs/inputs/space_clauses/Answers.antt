@@ -1,6 +1,6 @@
 use Rattle.std.proofs.Common.{sym, subst}
 use Rattle.dist_outside.specs.declared.trouble.WorkError.{WorkError}
-use Rattle.dist_subject.specs.Inputs.{IsLarge}
+use Rattle.dist_judge.specs.Causes.{IsLarge}
 use Rattle.dist_subject.specs.InputsPrivate.{PassesSpace}
 use Rattle.dist_subject.proofs.Made.{space-large}
 use Rattle.dist_subject.proofs.inputs.space_clauses.Goals as goal

@@ -9,8 +9,8 @@ use Rattle.dist_outside.specs.declared.trouble.WorkError.{WorkError}
 use Rattle.dist_outside.specs.declared.trouble.WorkError.TheVariants.{NoMemory}
 use Rattle.dist_subject.specs.Limited.{PassesFirst}
 use Rattle.dist_check.specs.Answers.{Answers, VerdictMeans}
+use Rattle.dist_judge.specs.Causes.{TextCause}
 use Rattle.dist_judge.specs.Judging.{OfText}
-use Rattle.dist_check.specs.Checking.{TextCause}
 use Rattle.dist_check.specs.declared.verdict.Verdict.{Verdict}
 use Rattle.dist_trial.specs.Trial.{Tells}
 use Rattle.dist_trial.proofs.Archives.{by-exit}

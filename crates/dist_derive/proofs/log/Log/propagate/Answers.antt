@@ -1,5 +1,5 @@
-use Rattle.std.proofs.Common.{length, take, inl, inr, subst, sym, ◌∙◌, arith}
-use Rattle.std.proofs.lemmas.Bool.{cases_lt, false≢true, true≢false}
+use Rattle.std.proofs.Common.{length, take, subst, sym, arith}
+use Rattle.std.proofs.lemmas.Bool.{false≢true, true≢false}
 use Rattle.dist_clause.specs.ClauseList.{clause_at}
 use Rattle.dist_derive.specs.SweepPrivate.{Propagates, Waits}
 use Rattle.dist_derive.proofs.WaitLemmas.{Propagates-then, refuted_before}
@@ -8,65 +8,52 @@ use Rattle.dist_derive.proofs.log.Log.propagate.Goals as goal
 use Rattle.dist_derive.proofs.log.Log.propagate.Goals.{After-take_literals, After-sweep}
 
 pub loop-index-init : goal.loop-index-init
-loop-index-init c = (
-  record {
-    grows = c.look_behind.ensures.grows;
-    waiting = λ number from _ to. elim (cases_lt c.args.seen number) [
-      | inl above ↦ c.look_behind.ensures.looked c.if-not-look_behind.false number c.args.done above to c.requires.done
-      | inr seen ↦ c.look_behind.ensures.grows.waiting c.args.done (clause_at c.args.self.now.clauses number) c.requires.done
-          (c.requires.waiting number from (omega arith))
-    ];
-  },
-  c.look_behind.ensures.same_marked,
-)
+loop-index-init c = record {
+  grows = c.look_at_all.ensures.grows;
+  waiting = λ number from _ to. c.look_at_all.ensures.looked c.if-not-look_at_all.false number 0 from to (omega arith);
+}
 
 -- from the start to the end of the queue, and to the end of the walk behind it
-queued : (c : After-take_literals) → Propagates (take c.args.last c.args.self.now.clauses) c.args.literals.now.all c.take_literals.new.literals.all
-queued c = Propagates-then (take c.args.last c.args.self.now.clauses) c.args.literals.now.all c.loop-index.literals.all c.take_literals.new.literals.all
-    c.loop-index.invariant.0.grows c.take_literals.ensures.grows
+queued : (c : After-take_literals) → Propagates (take c.args.last c.args.self.now.clauses) c.args.literals.now c.take_literals.new.literals
+queued c = Propagates-then (take c.args.last c.args.self.now.clauses) c.args.literals.now c.loop-index.literals c.take_literals.new.literals
+    c.loop-index.invariant.grows c.take_literals.ensures.grows
 
-walked : (c : After-sweep) → Propagates (take c.args.last c.args.self.now.clauses) c.args.literals.now.all c.sweep.new.literals.all
-walked c = Propagates-then (take c.args.last c.args.self.now.clauses) c.args.literals.now.all c.take_literals.new.literals.all c.sweep.new.literals.all
-    (Propagates-then (take c.args.last c.args.self.now.clauses) c.args.literals.now.all c.loop-index.literals.all c.take_literals.new.literals.all
-    c.loop-index.invariant.0.grows c.take_literals.ensures.grows) c.sweep.ensures.grows
+walked : (c : After-sweep) → Propagates (take c.args.last c.args.self.now.clauses) c.args.literals.now c.sweep.new.literals
+walked c = Propagates-then (take c.args.last c.args.self.now.clauses) c.args.literals.now c.take_literals.new.literals c.sweep.new.literals
+    (Propagates-then (take c.args.last c.args.self.now.clauses) c.args.literals.now c.loop-index.literals c.take_literals.new.literals
+    c.loop-index.invariant.grows c.take_literals.ensures.grows) c.sweep.ensures.grows
 
 pub returns-then-not-take_literals : goal.returns-then-not-take_literals
 returns-then-not-take_literals c = record {
-  same_marked = c.take_literals.ensures.same_marked ∙ c.loop-index.invariant.1;
   grows = queued (goal.at.returns-then-not-take_literals c).After-take_literals;
   settled = λ e. absurd (false≢true e);
-  refuted = λ _. refuted_before (take c.args.last c.args.self.now.clauses) c.args.literals.now.all
-      c.loop-index.literals.all c.loop-index.invariant.0.grows (c.take_literals.ensures.refuted c.if-not-take_literals.true);
+  refuted = λ _. refuted_before (take c.args.last c.args.self.now.clauses) c.args.literals.now
+      c.loop-index.literals c.loop-index.invariant.grows (c.take_literals.ensures.refuted c.if-not-take_literals.true);
 }
 
 pub returns-in-Conflict : goal.returns-in-Conflict
 returns-in-Conflict c = record {
-  same_marked = c.sweep.ensures.same_marked ∙ (c.take_literals.ensures.same_marked ∙ c.loop-index.invariant.1);
   grows = walked (goal.at.returns-in-Conflict c).After-sweep;
   settled = λ e. absurd (false≢true e);
-  refuted = λ _. refuted_before (take c.args.last c.args.self.now.clauses) c.args.literals.now.all c.take_literals.new.literals.all
+  refuted = λ _. refuted_before (take c.args.last c.args.self.now.clauses) c.args.literals.now c.take_literals.new.literals
       (queued (goal.at.returns-in-Conflict c).After-take_literals) c.in-Conflict.ensures.found;
 }
 
 pub returns-in-Settled : goal.returns-in-Settled
 returns-in-Settled c = record {
-  same_marked = c.sweep.ensures.same_marked ∙ (c.take_literals.ensures.same_marked ∙ c.loop-index.invariant.1);
   grows = walked (goal.at.returns-in-Settled c).After-sweep;
   settled = λ _. settled_end c.args.self.now.clauses c.args.last c.occurrences-index.result.now c.occurrences-index.ensures
-      c.covered.result c.take_literals.new.literals.all c.sweep.new.literals.all c.covered.ensures c.in-Settled.ensures.found
+      c.covered.result c.take_literals.new.literals c.sweep.new.literals c.covered.ensures c.in-Settled.ensures.found
       (c.take_literals.ensures.settled c.if-not-take_literals.false) c.requires.last;
   refuted = λ e. absurd (true≢false e);
 }
 
 pub loop-index-preserved : goal.loop-index-preserved
-loop-index-preserved c = (
-  record {
-    grows = walked (goal.at.loop-index-preserved c).After-sweep;
-    waiting = λ number from covered to.
-        let here = c.take_literals.ensures.settled c.if-not-take_literals.false number from covered to in
-        let mid = c.take_literals.new.literals.all.literals in
-        let on = c.sweep.ensures.grows.waiting (length mid) (clause_at c.args.self.now.clauses number) (omega arith) here in
-        subst (λ done. Waits c.sweep.new.literals.all.literals done (clause_at c.args.self.now.clauses number)) (sym c.len-done.ensures.value) on;
-  },
-  c.sweep.ensures.same_marked ∙ (c.take_literals.ensures.same_marked ∙ c.loop-index.invariant.1),
-)
+loop-index-preserved c = record {
+  grows = walked (goal.at.loop-index-preserved c).After-sweep;
+  waiting = λ number from covered to.
+      let here = c.take_literals.ensures.settled c.if-not-take_literals.false number from covered to in
+      let mid = c.take_literals.new.literals.literals in
+      let on = c.sweep.ensures.grows.waiting (length mid) (clause_at c.args.self.now.clauses number) (omega arith) here in
+      subst (λ done. Waits c.sweep.new.literals.literals done (clause_at c.args.self.now.clauses number)) (sym c.len-done.ensures.value) on;
+}

@@ -1,13 +1,13 @@
-use Rattle.std.proofs.Common.{arith}
-use Rattle.dist_derive.proofs.LevelLemmas.{open_waits, level_more}
+use Rattle.std.proofs.Common.{length, refl, ap, sym, subst, arith}
+use Rattle.std.specs.List.{Contains}
+use Rattle.dist_derive.proofs.GuardLemmas.{looks_false}
 use Rattle.dist_derive.proofs.log.Log.take_in.Goals as goal
 
-pub propagate-requires-clause-waiting : goal.propagate-requires-clause-waiting
-propagate-requires-clause-waiting c = open_waits c.args.self.now.clauses c.args.taken c.args.literals.now.all.literals c.len-done.result
-    c.requires.within c.requires.all_open
+pub returns-in_default : goal.returns-in_default
+returns-in_default c = looks_false c.args.self.now.clauses c.args.last c.requires.last c.args.number c.requires.from_one c.requires.to_last
+    c.args.watches.now c.args.literals.now (λ k d within. absurd (omega (arith, within, c.in_default.ensures.cases, ap length c.clause.ensures.value)))
 
-pub returns-then-propagate-clause-level : goal.returns-then-propagate-clause-level
-returns-then-propagate-clause-level c = λ assumptions level. level_more c.args.self.now.clauses c.args.self.now.variables c.args.taken c.len-last.result
-    assumptions c.args.literals.now.all c.propagate.new.literals.all level
-    (omega (arith, c.len-last.ensures.value, c.requires.within)) (omega (arith, c.len-last.ensures.value))
-    c.propagate.ensures.grows (c.propagate.ensures.settled c.if-propagate.true)
+pub look-requires-clause-member : goal.look-requires-clause-member
+look-requires-clause-member c =
+    subst (λ clause. Contains clause c.in-Some.first.now) c.clause.ensures.value
+    (subst (λ clause. Contains clause c.in-Some.first.now) (sym c.in-Some.ensures.cases.0) (0, omega arith, refl))

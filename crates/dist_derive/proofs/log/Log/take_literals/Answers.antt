@@ -1,4 +1,4 @@
-use Rattle.std.proofs.Common.{◌≡◌, ℕ, ◌≤◌, get_or, length, take, refl, ap, subst, ◌∙◌, arith}
+use Rattle.std.proofs.Common.{◌≡◌, ℕ, ◌≤◌, get_or, length, take, ap, subst, ◌∙◌, arith}
 use Rattle.dist_clause.specs.Formula.{negation}
 use Rattle.dist_clause.specs.ClauseList.{clause_at}
 use Rattle.dist_derive.specs.OccurrencesPrivate.{code_of, Lists}
@@ -8,26 +8,21 @@ use Rattle.dist_derive.proofs.QueueLemmas.{takes_more}
 use Rattle.dist_derive.proofs.log.Log.take_literals.Goals as goal
 
 pub loop-done-init : goal.loop-done-init
-loop-done-init c = (
-  record { grows = Propagates-none (take c.args.last c.args.self.now.clauses) c.args.literals.now.all; waiting = c.requires.waiting },
-  refl,
-)
+loop-done-init c = record { grows = Propagates-none (take c.args.last c.args.self.now.clauses) c.args.literals.now; waiting = c.requires.waiting }
 
 pub returns-then-not-visit-clause-grows : goal.returns-then-not-visit-clause-grows
-returns-then-not-visit-clause-grows c = Propagates-then (take c.args.last c.args.self.now.clauses) c.args.literals.now.all c.loop-done.literals.all
-    c.visit.new.literals.all c.loop-done.invariant.0.grows c.visit.ensures.grows
+returns-then-not-visit-clause-grows c = Propagates-then (take c.args.last c.args.self.now.clauses) c.args.literals.now c.loop-done.literals
+    c.visit.new.literals c.loop-done.invariant.grows c.visit.ensures.grows
 
 pub loop-done-preserved : goal.loop-done-preserved
 loop-done-preserved c =
     let index = c.args.index.now in
     let l = c.get.result in
-    let now = c.loop-done.literals.all in
-    let next = c.visit.new.literals.all in
+    let now = c.loop-done.literals in
+    let next = c.visit.new.literals in
     let latest : c.latest-latest.result ≡ get_or index.heads (code_of (negation l)) 0 =
-    c.latest-latest.ensures ∙ ap (λ k. get_or index.heads k 0) (c.code_of.ensures ∙ ap code_of c.negated.ensures) in (
-      takes_more c.args.self.now.clauses c.args.last index c.requires.index c.args.literals.now.all now next c.loop-done.done l c.loop-done.invariant.0
-          (omega arith) c.get.ensures c.visit.ensures.grows
-          (subst (λ place. (number d : ℕ) → Lists index.links place number → number ≤ c.args.last → d ≤ length now.literals
-          → Waits next.literals d (clause_at c.args.self.now.clauses number)) latest (c.visit.ensures.visited c.if-not-visit.false)),
-      c.visit.ensures.same_marked ∙ c.loop-done.invariant.1,
-    )
+    c.latest-latest.ensures ∙ ap (λ k. get_or index.heads k 0) (c.code_of.ensures ∙ ap code_of c.negated.ensures) in
+    takes_more c.args.self.now.clauses c.args.last index c.requires.index c.args.literals.now now next c.loop-done.done l c.loop-done.invariant
+    (omega arith) c.get.ensures c.visit.ensures.grows
+    (subst (λ place. (number d : ℕ) → Lists index.links place number → number ≤ c.args.last → d ≤ length now.literals
+    → Waits next.literals d (clause_at c.args.self.now.clauses number)) latest (c.visit.ensures.visited c.if-not-visit.false))

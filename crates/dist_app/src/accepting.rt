@@ -1,0 +1,48 @@
+//! The stage that accepts a certificate.
+ghost use Rattle.std.specs.Prelude.{IfErr, IfOk};
+ghost use Rattle.dist_outside.specs.DeskView.{OnlyReads};
+ghost use Rattle.dist_outside.specs.Files.{IsNotWriting};
+ghost use Rattle.dist_repo.specs.Size.{IsWithinSize};
+ghost use Rattle.dist_check.specs.Answers.{AcceptedMeans};
+ghost use Rattle.dist_app.specs.Check.{CertificateStage};
+ghost use Rattle.dist_app.specs.DuePrivate.{IsDue};
+ghost use Rattle.dist_app.specs.Run.{IsWithinStated};
+ghost use Rattle.dist_app.specs.Stages.{Ends, Goes};
+
+use crate::refusal::{Refusal, refusal_of};
+use dist_cert::{Claims, Header};
+use dist_check::{Verdict, check};
+use dist_outside::{Desk, Limits};
+use dist_repo::Repository;
+use std::alloc::Global;
+
+/// The first line of a certificate that was accepted, and its claims.
+#[derive(Drop)]
+pub(crate) struct Accepted {
+    pub(crate) header: Header,
+    pub(crate) claims: Claims,
+}
+
+/// What CERT says of a repository, if it is accepted.
+pub(crate) fn accept<D: Desk>(
+    alloc: Global,
+    desk: &mut D,
+    repository: &Repository,
+    cert: &str,
+    limits: &Limits,
+) -> Result<Accepted, Refusal>
+    requires not_writing { IsNotWriting (D.view desk.old).mode }
+    requires within { IsWithinStated limits.now }
+    requires within_size { IsWithinSize repository.now }
+    ensures goes { IfOk result (λ accepted. CertificateStage (D.view desk.old).files limits.now cert.now repository.now (Goes (accepted.header, accepted.claims))) }
+    ensures means { IfOk result (λ accepted. AcceptedMeans repository.now accepted.header accepted.claims) }
+    ensures due { IfErr result (IsDue (λ ending. CertificateStage (D.view desk.old).files limits.now cert.now repository.now (Ends ending))
+        (D.view desk.old) (D.view desk.new)) }
+    ensures only_reads { OnlyReads (D.view desk.old) (D.view desk.new) }
+{
+    match check(alloc, repository, desk, cert, limits) {
+        Ok(Verdict::Accepted(header, claims)) => Ok(Accepted { header, claims }),
+        Ok(Verdict::Refused(fault)) => Err(Refusal::CertificateRefused(fault)),
+        Err(error) => Err(refusal_of(error)),
+    }
+}

@@ -1,0 +1,5 @@
+mod Verdicts
+mod Steps
+mod Lines
+mod Begun
+mod First

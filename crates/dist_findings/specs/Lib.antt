@@ -1,0 +1,12 @@
+pub mod Unclaimed
+pub mod Findings
+pub mod AnswerFiles
+pub mod Start
+pub mod Answers
+pub mod FileAnswers
+pub mod AskingPrivate
+pub mod BegunPrivate
+pub mod CheckedPrivate
+pub mod FindingLaws
+pub mod FilesClearLaws
+pub mod SoundLaws

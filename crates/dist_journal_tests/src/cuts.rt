@@ -1,0 +1,58 @@
+//! A journal that is cut off at each of its bytes.
+use crate::journals::{answer, archive_of, is_same};
+use dist_archive::StepError::NotOne;
+use dist_journal::FollowError::{self, Bad};
+use dist_journal::JournalFault::{BadBlock, BadStep, Refused, Stray};
+use dist_samples::LIBRARY;
+use std::alloc::Global;
+
+const JOURNAL: &str =
+    "= upload libx 2\nPackage: libx\nVersion: 2\n\n= new\nPackage: foo\nVersion: 1\n";
+
+/// How many bytes have an answer, one row after another.
+const CUTS: [(usize, Result<u32, FollowError>); 17] = [
+    // Nothing; an equals sign alone; a step line that is not whole.
+    (1, Ok(0)),
+    (1, Err(Bad(1, Stray))),
+    (13, Err(Bad(1, BadStep))),
+    // The step line, without its end and with it; a field that is not whole; a stanza without a version.
+    (2, Ok(1)),
+    (9, Err(Bad(2, BadBlock))),
+    (5, Err(Bad(2, BadBlock))),
+    (7, Err(Bad(3, BadBlock))),
+    (2, Err(Bad(3, BadBlock))),
+    // The version; a step line that is not whole.
+    (3, Ok(1)),
+    (1, Err(Bad(5, BadBlock))),
+    (3, Err(Bad(5, BadStep))),
+    // The step line; its block.
+    (2, Err(Bad(5, Refused(NotOne)))),
+    (9, Err(Bad(6, BadBlock))),
+    (4, Err(Bad(6, BadBlock))),
+    (7, Err(Bad(7, BadBlock))),
+    (2, Err(Bad(7, BadBlock))),
+    (2, Ok(2)),
+];
+
+/// Whether the first bytes of the journal, so many of them, are answered so.
+fn is_answered(alloc: Global, bytes: usize, wanted: Result<u32, FollowError>) -> Option<bool> {
+    let mut archive = archive_of(alloc, LIBRARY)?;
+    let given = answer(alloc, &mut archive, JOURNAL.as_bytes().get(..bytes)?)?;
+    drop(archive);
+    Some(is_same(given, wanted))
+}
+
+#[test]
+fn each_cut_is_answered(rt: HostRuntime) {
+    let mut bytes = 0usize;
+    for (many, wanted) in &CUTS {
+        for _ in 0..*many {
+            assert!(rt;
+                is_answered(rt.alloc(), bytes, *wanted) == Some(true),
+                "at {bytes}"
+            );
+            bytes = bytes.saturating_add(1);
+        }
+    }
+    assert!(rt; bytes == JOURNAL.len() + 1, "all cuts are told");
+}
