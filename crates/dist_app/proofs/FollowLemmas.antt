@@ -25,9 +25,17 @@ use Rattle.dist_check.specs.Means.{MeansChallenged, SaysChallenged}
 use Rattle.dist_future.specs.Pairs.{IsOfPair}
 use Rattle.dist_journal.specs.Broken.{AreBroken, IsBroken, Lists}
 use Rattle.dist_journal.specs.declared.broken_list.Broken.{Broken}
-use Rattle.dist_history.specs.FollowText.{held_version, version_of_name}
+use Rattle.dist_history.specs.FollowText.{follow_text, held_version, version_of_name}
 use Rattle.dist_history.specs.FollowTextLaws.{version-held}
-use Rattle.dist_app.specs.Follow.{StaysBroken}
+use Rattle.dist_archive.specs.Archive.{ArchiveView}
+use Rattle.dist_cert.specs.declared.records.CertKind.{CertKind}
+use Rattle.dist_cert.specs.declared.records.CertKind.TheVariants.{Strong, Outdated, Challenged}
+use Rattle.dist_journal.specs.Follow.{IsFollowed}
+use Rattle.dist_app.specs.Follow.{AreToldBroken, StaysBroken, TellsFollowed}
+use Rattle.dist_app.specs.FollowPrivate.{IsBacked, pair_of}
+use Rattle.dist_app.specs.Stages.{answered}
+use Rattle.dist_app.specs.declared.accepting.Accepted.{Accepted}
+use Rattle.dist_app.specs.declared.status.Status.TheVariants.{Done}
 
 -- the laws of archives: two packages of a cluster are in one, and what challenges a package breaks it after all steps
 abbrev pub AreWhole : Type 0
@@ -115,3 +123,32 @@ module _ (whole : AreWhole) (after : HoldAfterSteps) (s : SpaceView) (space : Is
       any-more (λ (n : Package). (n.name ≡ q.name) × (version_cmp n.version (held_version s archive broken.cluster) ≡ Equal))
       (λ (n : Package). (n.name ≡ q.name) × (version_cmp n.version version ≡ Equal))
       (λ n both. (both.0, sym (alike-right (held_version s archive broken.cluster) version n.version equal) ∙ both.1)) later (holds q inside))
+
+-- ---- what the command tells
+
+are_broken : (kind : CertKind) (s : SpaceView) (archive : List Package) (made : List Claim) (list : List Broken) (broken : Broken)
+    → AreToldBroken kind s archive made list → Contains list broken → (kind ≡ Challenged) × IsBroken s archive made broken
+are_broken Strong s archive made list broken told has = absurd (subst (λ (l : List Broken). Contains l broken) told has)
+are_broken Outdated s archive made list broken told has = absurd (subst (λ (l : List Broken). Contains l broken) told has)
+are_broken Challenged s archive made list broken told has = (refl, (told.exact broken).0 has)
+
+module _ (whole : AreWhole) (after : HoldAfterSteps) (space : SpaceView) (is_space : IsSpace space) (accepted : Accepted) (backed : IsBacked space accepted)
+    (stanzas : ℕ) (journal : List ℕ) (count : ℕ) where
+  -- what an archive that was followed to the end of a journal tells
+  pub tells : (archive : ArchiveView) → archive.space ≡ space → IsFuture archive.space.repository archive.packages
+      → IsFollowed space stanzas journal space.repository.packages archive.packages count → (text : List ℕ)
+      → ((list : List Broken) × AreToldBroken accepted.header.kind archive.space archive.packages accepted.claims list
+      × (text ≡ follow_text archive.space archive.packages count list))
+      → (files : Option Files) → TellsFollowed files stanzas space (pair_of accepted) journal (answered files Done text)
+  tells archive refl future followed text (list, told, is) files =
+      record {
+        archive = archive.packages;
+        count = count;
+        followed = followed;
+        list = list;
+        are_told = told;
+        stay = λ broken has.
+        let both = are_broken accepted.header.kind archive.space archive.packages accepted.claims list broken told has in
+        stays whole after archive.space is_space archive.packages future accepted.claims (backed both.0) broken both.1;
+        is = ap (answered files Done) is;
+      }
