@@ -1,5 +1,5 @@
 -- What is told of a journal that was followed, and that what is broken stays so.
-use Rattle.std.proofs.Common.{◌≡◌, ◌<◌, ℕ, Bool, List, [], length, get_or, Option, Some, refl, sym, ap, ◌∙◌, subst}
+use Rattle.std.proofs.Common.{◌≡◌, ◌≢◌, ◌<◌, ℕ, Bool, inl, inr, arith, List, [], length, get_or, Option, Some, refl, sym, ap, ◌∙◌, subst}
 use Rattle.std.proofs.Common.{slice_get}
 use Rattle.std.specs.Prelude.{Contains, IsSomeAnd}
 use Rattle.std.specs.Option.{option_map_or}
@@ -30,11 +30,16 @@ use Rattle.dist_history.specs.FollowTextLaws.{version-held}
 use Rattle.dist_archive.specs.Archive.{ArchiveView}
 use Rattle.dist_cert.specs.declared.records.CertKind.{CertKind}
 use Rattle.dist_cert.specs.declared.records.CertKind.TheVariants.{Strong, Outdated, Challenged}
-use Rattle.dist_journal.specs.Follow.{IsFollowed}
-use Rattle.dist_app.specs.Follow.{AreToldBroken, StaysBroken, TellsFollowed}
-use Rattle.dist_app.specs.FollowPrivate.{IsBacked, pair_of}
-use Rattle.dist_app.specs.Stages.{answered}
+use Rattle.dist_journal.specs.Follow.{IsFollowed, IsStopped}
+use Rattle.dist_journal.specs.declared.fault.FollowError.{FollowError}
+use Rattle.dist_journal.specs.declared.fault.FollowError.TheVariants.{Bad, TooMany, NoMemory}
+use Rattle.dist_app.specs.DuePrivate.{IsPartGivenUp}
+use Rattle.dist_app.specs.Follow.{AreToldBroken, JournalStage, StaysBroken, TellsFollowed}
+use Rattle.dist_app.specs.FollowPrivate.{IsBacked, IsRefusalOf, pair_of}
+use Rattle.dist_app.specs.Stages.{Ends, answered, refused}
 use Rattle.dist_app.specs.declared.accepting.Accepted.{Accepted}
+use Rattle.dist_app.specs.declared.refusal.Refusal.{Refusal}
+use Rattle.dist_app.specs.declared.status.Status.{Status}
 use Rattle.dist_app.specs.declared.status.Status.TheVariants.{Done}
 
 -- the laws of archives: two packages of a cluster are in one, and what challenges a package breaks it after all steps
@@ -126,29 +131,66 @@ module _ (whole : AreWhole) (after : HoldAfterSteps) (s : SpaceView) (space : Is
 
 -- ---- what the command tells
 
+nothing-in : (broken : Broken) → ¬ Contains [] broken
+nothing-in broken there = omega (arith, there.1)
+
 are_broken : (kind : CertKind) (s : SpaceView) (archive : List Package) (made : List Claim) (list : List Broken) (broken : Broken)
     → AreToldBroken kind s archive made list → Contains list broken → (kind ≡ Challenged) × IsBroken s archive made broken
-are_broken Strong s archive made list broken told has = absurd (subst (λ (l : List Broken). Contains l broken) told has)
-are_broken Outdated s archive made list broken told has = absurd (subst (λ (l : List Broken). Contains l broken) told has)
+are_broken Strong s archive made list broken told has = absurd (nothing-in broken (subst (λ (l : List Broken). Contains l broken) told has))
+are_broken Outdated s archive made list broken told has = absurd (nothing-in broken (subst (λ (l : List Broken). Contains l broken) told has))
 are_broken Challenged s archive made list broken told has = (refl, (told.exact broken).0 has)
+
+-- which packages are told, and the text of it
+abbrev pub Told : Accepted → SpaceView → (archive : List Package) → (count : ℕ) → (text : List ℕ) → Type 0
+Told accepted s archive count text = (list : List Broken) × AreToldBroken accepted.header.kind s archive accepted.claims list
+    × (text ≡ follow_text s archive count list)
 
 module _ (whole : AreWhole) (after : HoldAfterSteps) (space : SpaceView) (is_space : IsSpace space) (accepted : Accepted) (backed : IsBacked space accepted)
     (stanzas : ℕ) (journal : List ℕ) (count : ℕ) where
   -- what an archive that was followed to the end of a journal tells
-  pub tells : (archive : ArchiveView) → archive.space ≡ space → IsFuture archive.space.repository archive.packages
-      → IsFollowed space stanzas journal space.repository.packages archive.packages count → (text : List ℕ)
-      → ((list : List Broken) × AreToldBroken accepted.header.kind archive.space archive.packages accepted.claims list
-      × (text ≡ follow_text archive.space archive.packages count list))
+  tells-here : (archive : List Package) → IsFuture space.repository archive
+      → IsFollowed space stanzas journal space.repository.packages archive count → (text : List ℕ) → Told accepted space archive count text
       → (files : Option Files) → TellsFollowed files stanzas space (pair_of accepted) journal (answered files Done text)
-  tells archive refl future followed text (list, told, is) files =
+  tells-here archive future followed text (list, told, is) files =
       record {
-        archive = archive.packages;
+        archive = archive;
         count = count;
         followed = followed;
         list = list;
         are_told = told;
         stay = λ broken has.
-        let both = are_broken accepted.header.kind archive.space archive.packages accepted.claims list broken told has in
-        stays whole after archive.space is_space archive.packages future accepted.claims (backed both.0) broken both.1;
+            let both = are_broken accepted.header.kind space archive accepted.claims list broken told has in
+            stays whole after space is_space archive future accepted.claims (backed both.0) broken both.1;
         is = ap (answered files Done) is;
       }
+
+  pub tells : (started archive : ArchiveView) → started ≡ record { space = space; packages = space.repository.packages } → archive.space ≡ started.space
+      → IsFuture archive.space.repository archive.packages
+      → IsFollowed started.space stanzas journal started.packages archive.packages count → (status : Status) (text : List ℕ) → status ≡ Done
+      → Told accepted archive.space archive.packages count text
+      → (files : Option Files) → TellsFollowed files stanzas space (pair_of accepted) journal (answered files status text)
+  tells started archive is same future followed status text done told files =
+      let own : archive.space ≡ space = same ∙ ap (λ (a : ArchiveView). a.space) is in
+      subst (λ (s : Status). TellsFollowed files stanzas space (pair_of accepted) journal (answered files s text)) (sym done)
+      (tells-here archive.packages (subst (λ (s : SpaceView). IsFuture s.repository archive.packages) own future)
+      (subst (λ (a : ArchiveView). IsFollowed a.space stanzas journal a.packages archive.packages count) is followed) text
+      (subst (λ (s : SpaceView). Told accepted s archive.packages count text) own told) files)
+
+-- ---- why it gives up
+
+module _ (files : Option Files) (stanzas : ℕ) (space : SpaceView) (journal : List ℕ) (left : List Package) where
+  stopped-part : (error : FollowError) (why : Refusal)
+      → (error ≢ NoMemory → IsStopped space stanzas journal space.repository.packages left error) → IsRefusalOf error why
+      → IsPartGivenUp (λ ending. JournalStage files stanzas space journal (Ends ending)) files why
+  stopped-part (Bad line fault) why stopped is =
+      inr (Bad line fault, (left, stopped (λ (same : Bad line fault ≡ NoMemory). cc)), ap (refused files) is)
+  stopped-part TooMany why stopped is = inr (TooMany, (left, stopped (λ (same : TooMany ≡ NoMemory). cc)), ap (refused files) is)
+  stopped-part NoMemory why stopped is = inl is
+
+pub gives-up : (space : SpaceView) (stanzas : ℕ) (journal : List ℕ) (started archive : ArchiveView)
+    → started ≡ record { space = space; packages = space.repository.packages } → (error : FollowError) (why : Refusal)
+    → (error ≢ NoMemory → IsStopped started.space stanzas journal started.packages archive.packages error) → IsRefusalOf error why
+    → (files : Option Files) → IsPartGivenUp (λ ending. JournalStage files stanzas space journal (Ends ending)) files why
+gives-up space stanzas journal started archive is error why stopped refusal files =
+    stopped-part files stanzas space journal archive.packages error why
+    (subst (λ (a : ArchiveView). error ≢ NoMemory → IsStopped a.space stanzas journal a.packages archive.packages error) is stopped) refusal
