@@ -1,7 +1,7 @@
 -- What is told of a journal that was followed, and that what is broken stays so.
 use Rattle.std.proofs.Common.{◌≡◌, ◌≢◌, ◌<◌, ℕ, Bool, inl, inr, arith, List, [], length, get_or, Option, Some, refl, sym, ap, ◌∙◌, subst}
 use Rattle.std.proofs.Common.{slice_get}
-use Rattle.std.specs.Prelude.{Contains, IsSomeAnd}
+use Rattle.std.specs.Prelude.{Contains}
 use Rattle.std.specs.Option.{option_map_or}
 use Rattle.std.specs.declared.cmp.Ordering.TheVariants.{Equal}
 use Rattle.std.proofs.lemmas.List.Elements.{All-contains}
@@ -10,7 +10,6 @@ use Rattle.dist_outside.specs.Files.{Files}
 use Rattle.dist_base.specs.ListLaws.{any-more, at-has, contains-at, found-at, here-at}
 use Rattle.dist_version.specs.Order.{version_cmp}
 use Rattle.dist_cluster.specs.Partition.{least}
-use Rattle.dist_repo.specs.PackageList.{PackageList}
 use Rattle.dist_repo.specs.declared.package.Package.{Package}
 use Rattle.dist_classes.specs.VersionOrderLaws.{alike-right}
 use Rattle.dist_space.specs.ClusterLaws.{in-package}
@@ -23,7 +22,7 @@ use Rattle.dist_cert.specs.declared.records.Claim.{Claim}
 use Rattle.dist_cert.specs.declared.records.Claim.TheVariants as claims
 use Rattle.dist_check.specs.Means.{MeansChallenged, SaysChallenged}
 use Rattle.dist_future.specs.Pairs.{IsOfPair}
-use Rattle.dist_journal.specs.Broken.{AreBroken, IsBroken, Lists}
+use Rattle.dist_journal.specs.Broken.{IsBroken, Lists}
 use Rattle.dist_journal.specs.declared.broken_list.Broken.{Broken}
 use Rattle.dist_history.specs.FollowText.{follow_text, held_version, version_of_name}
 use Rattle.dist_history.specs.FollowTextLaws.{version-held}

@@ -1,4 +1,4 @@
-use Rattle.std.proofs.Common.{◌∙◌, List, [], ◌∷◌, ◌++◌, ℕ, Option, Some, None, Result, Ok, Err, IfErr, refl, sym, subst}
+use Rattle.std.proofs.Common.{List, [], ◌∷◌, ◌++◌, ℕ, Option, Some, None, Result, Ok, Err, IfErr, refl, sym, subst}
 use Rattle.dist_base.specs.Ascii.{line_feed}
 use Rattle.dist_outside.specs.DeskView.{DeskView, OnlyReads}
 use Rattle.dist_outside.specs.Reading.{bytes_left}
@@ -8,7 +8,6 @@ use Rattle.dist_cert.specs.Reading.{WhereTold, text_left}
 use Rattle.dist_judge.specs.Causes.{TextCause}
 use Rattle.dist_judge.specs.Judging.{OfText}
 use Rattle.dist_judge.specs.ReadingLaws.{by_exit, later_cause, nothing_read}
-use Rattle.dist_findings.specs.AnswerFiles.{AnswerFile}
 use Rattle.dist_findings.specs.Answers.{TextAnswers}
 use Rattle.dist_findings.specs.FilesClearLaws.{clear_files}
 use Rattle.dist_findings.specs.declared.finding.Finding.{Finding}
