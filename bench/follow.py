@@ -34,7 +34,7 @@ def main():
         for count in (0, steps // 2, steps):
             with open(journal, "w", encoding="utf-8") as file:
                 for number in range(count):
-                    name, version = names[number % len(names)], f"9:{number}"
+                    name, version = names[number % len(names)], f"2147483647:{number}"
                     file.write(f"= upload {name} {version}\nPackage: {name}\nVersion: {version}\n\n")
             start = time.perf_counter()
             for path in (packages, journal):
