@@ -1,5 +1,5 @@
 -- What is known of an accepted file: its numbers, its findings, and what these answer.
-use Rattle.std.proofs.Common.{◌≡◌, ◌≢◌, ◌↔◌, inl, inr, ℕ, zero, suc, ◌+◌, ◌-◌, ◌<◌, ◌≤◌, ◌^◌, ◌==◌, Bool, true, false, not, List, [], ◌∷◌, ◌++◌, Option, Some, None, length, get_or, refl, sym}
+use Rattle.std.proofs.Common.{◌≡◌, ◌≢◌, inl, inr, ℕ, ◌-◌, ◌≤◌, ◌^◌, ◌==◌, true, not, List, [], ◌∷◌, ◌++◌, Option, Some, None, length, refl, sym}
 use Rattle.std.proofs.Common.{ap, subst, ◌∙◌, arith, slice_get, append_assoc}
 use Rattle.std.specs.Prelude.{All, Contains, codes}
 use Rattle.std.specs.List.{list_all}
@@ -10,12 +10,11 @@ use Rattle.dist_base.specs.Ascii.{line_feed}
 use Rattle.dist_base.specs.ListLaws.{ElementAt, element-at}
 use Rattle.dist_clause.specs.Formula.{Literal}
 use Rattle.dist_outside.specs.declared.limits.Limits.{Limits}
-use Rattle.dist_cert.specs.declared.faults.CertCause.{CertCause}
 use Rattle.dist_cert.specs.declared.faults.CertCause.TheVariants as causes
 use Rattle.dist_cert.specs.declared.records.CertRecord.{CertRecord}
 use Rattle.dist_cert.specs.declared.records.CertRecord.TheVariants.{End}
 use Rattle.dist_cert.specs.ClearFormsLaws.{FormsAreClear}
-use Rattle.dist_cert.specs.FileLines.{HasFaultBehind, IsOneLine, IsWhole, lines_text}
+use Rattle.dist_cert.specs.FileLines.{IsOneLine, IsWhole, lines_text}
 use Rattle.dist_cert.specs.Form.{HasForm, Word, record_text}
 use Rattle.dist_cert.specs.GroupLaws.{all-at}
 use Rattle.dist_cert.specs.ListLaws.{contains-cases}
@@ -23,10 +22,9 @@ use Rattle.dist_cert.specs.OneVerdictLaws.{first_line_of}
 use Rattle.dist_judge.specs.ClearKindLaws.{IsClear}
 use Rattle.dist_judge.specs.FileKind.{FileKind, rules_of}
 use Rattle.dist_judge.specs.HeadingLaws.{heading_begins}
-use Rattle.dist_judge.specs.Judging.{IsCompleted}
 use Rattle.dist_judge.specs.WholeLaws.{whole_ended, whole_faultless}
 use Rattle.dist_check_state.specs.ModelLaws.{WhatFollows, sound-rule}
-use Rattle.dist_check_state.specs.ToldLaws.{bool-told, most-told, stable}
+use Rattle.dist_check_state.specs.ToldLaws.{most-told, stable}
 use Rattle.dist_future.specs.Moved.{TellOfMoves}
 use Rattle.dist_space.specs.Space.{IsSpace, SpaceView}
 use Rattle.dist_space_clauses.specs.SpaceClauses.{AreSpaceClauses}
@@ -37,7 +35,7 @@ use Rattle.dist_findings.specs.FindingLaws.{findings_push, open_after}
 use Rattle.dist_findings.specs.Findings.{findings, found_at}
 use Rattle.dist_findings.specs.SoundLaws.{IsSound, NewLinesAreFew, findings_sound}
 use Rattle.dist_findings.specs.declared.finding.Finding.{Finding}
-use Rattle.dist_repair.specs.Answered.{Answers, Asked}
+use Rattle.dist_repair.specs.Answered.{Answers}
 use Rattle.dist_repair.specs.Counters.{CountedModelsTell, ModelsTellMoves, counted_clauses, counted_variables, counter_of}
 use Rattle.dist_repair.specs.Means.{Says}
 use Rattle.dist_repair.specs.RepairFiles.{AreCountedInputs, Fits, IsDecided, asked_by, most_of, number_at, repair_files}
@@ -173,7 +171,8 @@ module _ (s : SpaceView) (space : IsSpace s) (forms : FormsAreClear) (follows : 
       sound inputs = subst (λ (clauses : List (List Literal)). All (IsSound clauses (limit_of numbers)) (findings answered.steps)) inputs.counted
           (findings_sound (sound-rule follows) few (λ before. IsDecided s (asked_by numbers) (findings before)) answered.basis.variables
           answered.basis.clauses (limit_of numbers) answered.steps (λ before step after is cause.
-          whole_faultless (files_of (repair_files s)) (clear s forms) answered.basis limits text numbers answered.steps answered.accepted before step after is cause))
+          whole_faultless (files_of (repair_files s)) (clear s forms) answered.basis limits text numbers answered.steps answered.accepted
+          before step after is cause))
 
       says : AreCountedInputs s (most_of numbers) answered.basis → Says s at.element repair
       says inputs =

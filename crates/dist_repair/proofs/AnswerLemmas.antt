@@ -1,14 +1,15 @@
 -- What notes answer is what their findings answer.
-use Rattle.std.proofs.Common.{◌≡◌, ◌≢◌, ◌↔◌, ◌⊎◌, inl, inr, ℕ, ◌+◌, ◌<◌, ◌≤◌, ◌==◌, ◌&&◌, ◌||◌, Bool, true, false, List, [], ◌∷◌, ◌++◌, Option, Some, None, length}
-use Rattle.std.proofs.Common.{length-append, get_or, refl, sym, ap, subst, ◌∙◌, arith}
-use Rattle.std.specs.Prelude.{All, Contains, nat_le, nat_lt}
-use Rattle.std.proofs.lemmas.Bool.{and_from, and_parts, cases_Bool, cond-false, cond-true, eq-eqb, eqb-false, eqb-true, false≢true, le-leb, leb-false, leb-true, lt-leb, lt-ltb, ltb-true}
+use Rattle.std.proofs.Common.{◌≡◌, ◌≢◌, ◌↔◌, ◌⊎◌, inl, inr, ℕ, ◌+◌, ◌<◌, ◌≤◌, ◌==◌, ◌||◌, Bool, true, false, List, ◌∷◌, Option, Some, None, length}
+use Rattle.std.proofs.Common.{get_or, refl, sym, ap, subst, ◌∙◌, arith}
+use Rattle.std.specs.Prelude.{Contains, nat_le, nat_lt}
+use Rattle.std.proofs.lemmas.Bool.{and_from, and_parts, cases_Bool, cond-false, cond-true, eq-eqb, eqb-false, eqb-true, le-leb, leb-false, leb-true, lt-leb}
+use Rattle.std.proofs.lemmas.Bool.{lt-ltb, ltb-true}
 use Rattle.std.proofs.lemmas.Bool.{or_cases, or_left, or_right, true≢false}
 use Rattle.std.proofs.lemmas.List.Elements.{All-contains, Contains-append_cases, Contains-append_right}
 use Rattle.dist_cert.specs.ListLaws.{contains-cases}
 use Rattle.dist_space.specs.Space.{SpaceView}
 use Rattle.dist_findings.specs.declared.finding.Finding.{Finding}
-use Rattle.dist_repair.specs.Answered.{Answers, Asked, AsksAlone, AsksAt, EndsAt, IsFirstLeast, IsLeft, IsLeftAt, IsLower, IsRefuted, IsUpper, installed, moved_in}
+use Rattle.dist_repair.specs.Answered.{Answers, Asked, AsksAlone, IsFirstLeast, IsLeftAt, IsLower, IsRefuted, IsUpper, installed, moved_in}
 use Rattle.dist_repair.specs.NotesPrivate.{AreNotesOf, NotesView, answer_by, answer_of, ends_by, has_answer, is_at_end}
 use Rattle.dist_repair.specs.RepairFiles.{IsDecided}
 use Rattle.dist_repair.specs.declared.repair.Repair.{Repair}

@@ -1,19 +1,19 @@
 -- A question that is left undecided is hard: there are many variables.
-use Rattle.std.proofs.Common.{◌≡◌, ◌↔◌, inl, inr, ℕ, zero, suc, ◌+◌, ◌-◌, ◌*◌, ◌<◌, ◌≤◌, ◌^◌, ◌&&◌, Bool, true, false, List, [], ◌∷◌, ◌++◌, length, length-append, map, refl, sym, subst}
-use Rattle.std.proofs.Common.{◌∙◌, arith}
+use Rattle.std.proofs.Common.{◌≡◌, ◌↔◌, inl, inr, ℕ, zero, suc, ◌+◌, ◌<◌, ◌≤◌, ◌^◌, ◌&&◌, Bool, true, false, List, [], ◌∷◌, ◌++◌, length, length-append}
+use Rattle.std.proofs.Common.{subst}
+use Rattle.std.proofs.Common.{arith}
 use Rattle.std.specs.Prelude.{All, Contains, nat_le}
 use Rattle.std.proofs.Math.Nat.{pow-le-pow_right}
 use Rattle.std.proofs.lemmas.Bool.{and_from, and_parts, cases_lt, le-leb, leb-true}
 use Rattle.std.proofs.lemmas.List.Elements.{All-append, All-cons, All-nil, All-weaker, Contains-append_left, Contains-push, Contains-push_cases}
-use Rattle.dist_clause.specs.Formula.{Literal, literal}
-use Rattle.dist_derive.specs.Cone.{InCone, IsClosedUnder}
-use Rattle.dist_cert.specs.Form.{Word}
-use Rattle.dist_cert.specs.Groups.{clause_of}
+use Rattle.dist_clause.specs.Formula.{Literal}
+use Rattle.dist_derive.specs.Cone.{InCone}
 use Rattle.dist_check_state.specs.ToldLaws.{IsTold, either-way, most-told, stable}
 use Rattle.dist_space.specs.Space.{IsSpace, SpaceView, cluster_classes, variable_of}
 use Rattle.dist_space.specs.VariableLaws.{variable-range}
 use Rattle.dist_space.specs.declared.meaning.Meaning.TheVariants.{At}
-use Rattle.dist_repair.specs.Counters.{Counter, class_clauses, count_clauses, counted_clauses, counted_variables, counter_of, each_below, more, moved, no, yes}
+use Rattle.dist_repair.specs.Counters.{Counter, class_clauses, count_clauses, counted_clauses, counted_variables, counter_of, each_below, more, moved, no}
+use Rattle.dist_repair.specs.Counters.{yes}
 use Rattle.dist_repair.proofs.BelowLemmas.{below-all, place-below}
 use Rattle.dist_repair.proofs.OverLemmas.{IsOver}
 
@@ -138,7 +138,8 @@ upto_test n w = nat_le 1 w && nat_le w n
 cone-within : (n : ℕ) (inputs : List (List Literal)) (assumptions : List Literal) → All (IsOver n) inputs → IsOver n assumptions → (v : ℕ)
     → InCone inputs assumptions v → (1 ≤ v) × (v ≤ n)
 cone-within n inputs assumptions over within v in_cone =
-    let on = in_cone (upto_test n) (inside assumptions within) (All-weaker (IsOver n) (λ clause. All (λ l. l.positive ≡ false → upto_test n l.variable ≡ true) clause
+    let on = in_cone (upto_test n) (inside assumptions within) (All-weaker (IsOver n)
+    (λ clause. All (λ l. l.positive ≡ false → upto_test n l.variable ≡ true) clause
     → All (λ l. upto_test n l.variable ≡ true) clause) (λ clause clause_over given. inside clause clause_over) inputs over) in
     let parts = and_parts (nat_le 1 v) (nat_le v n) on in
     (leb-true 1 v parts.0, leb-true v n parts.1)

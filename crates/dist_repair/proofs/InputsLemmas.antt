@@ -1,25 +1,23 @@
 -- What files are judged by, and why there is none.
-use Rattle.std.proofs.Common.{◌≡◌, ◌≢◌, ◌↔◌, inl, inr, ℕ, zero, suc, ◌+◌, ◌-◌, ◌*◌, ◌<◌, ◌≤◌, Bool, true, false, List, [], ◌∷◌, ◌++◌, Some, None, Option, length, get_or}
-use Rattle.std.proofs.Common.{refl, sym, ap, subst, ◌∙◌, arith, append_assoc, Result, Ok, Err, suc-mul}
+use Rattle.std.proofs.Common.{◌≡◌, inl, inr, ℕ, zero, suc, ◌+◌, ◌-◌, ◌*◌, ◌<◌, ◌≤◌, List, [], ◌∷◌, ◌++◌, Some, None, length}
+use Rattle.std.proofs.Common.{refl, sym, ap, subst, ◌∙◌, arith, append_assoc, Result, Err, suc-mul}
 use Rattle.dist_base.specs.Answers.{IsExactly}
-use Rattle.dist_clause.specs.ClauseList.{ClauseList, literal_count}
-use Rattle.dist_clause.specs.Demands.{IsRefused, IsStopped}
+use Rattle.dist_clause.specs.ClauseList.{ClauseList}
+use Rattle.dist_clause.specs.Demands.{IsRefused}
 use Rattle.dist_clause.specs.Formula.{Literal}
 use Rattle.dist_clause.specs.declared.clause_set.PushError.{PushError}
 use Rattle.dist_clause.specs.declared.clause_set.PushError.TheVariants as push
 use Rattle.dist_judge.specs.Causes.{IsLarge}
 use Rattle.dist_outside.specs.declared.limits.Limits.{Limits}
-use Rattle.dist_outside.specs.declared.trouble.What.{What}
 use Rattle.dist_outside.specs.declared.trouble.What.TheVariants as what
 use Rattle.dist_outside.specs.declared.trouble.WorkError.{WorkError}
 use Rattle.dist_outside.specs.declared.trouble.WorkError.TheVariants as work
 use Rattle.dist_space.specs.ClusterLaws.{has-cluster}
 use Rattle.dist_space.specs.Space.{IsSpace, SpaceView}
 use Rattle.dist_space_clauses.specs.ClauseLaws.{GoesOn}
-use Rattle.dist_space_clauses.specs.SpaceClauses.{AreClausesBefore, AreSpaceClauses, Demand, IsClauseFor, IsDemand, space_demands}
+use Rattle.dist_space_clauses.specs.SpaceClauses.{AreClausesBefore, AreSpaceClauses, Demand, IsClauseFor, IsDemand}
 use Rattle.dist_space_clauses.specs.SpaceSet.{IsSetOf, PassesClauses, PassesLiterals}
 use Rattle.dist_subject.specs.Inputs.{large_by}
-use Rattle.dist_findings.specs.AnswerFiles.{Inputs}
 use Rattle.dist_findings.specs.Start.{GivesInputs, HasRightNumbers, IsLargeInput}
 use Rattle.dist_repair.specs.Answered.{beyond, own}
 use Rattle.dist_repair.specs.CountedPrivate.{IsStoppedIn}
@@ -190,5 +188,7 @@ module _ (s : SpaceView) (space : IsSpace s) (numbers : List ℕ) (right : HasRi
         own_is = own_is;
         first_is = omega (arith, last, first_is);
         most_is = most_is;
-        last_is = let within = most-within in let sum : w.first + w.most ≡ number_at 2 numbers = omega (arith, first_is, most_is, within) in sum ∙ variables-are;
+        last_is =
+            let within = most-within in
+            let sum : w.first + w.most ≡ number_at 2 numbers = omega (arith, first_is, most_is, within) in sum ∙ variables-are;
       }

@@ -1,5 +1,6 @@
 -- Models of the clauses of a space with those of its counter.
-use Rattle.std.proofs.Common.{◌≡◌, ℕ, suc, ◌+◌, ◌-◌, ◌*◌, ◌<◌, ◌≤◌, Bool, true, false, List, [], ◌∷◌, ◌++◌, Some, length, length-append, get_or, refl, sym, ap}
+use Rattle.std.proofs.Common.{◌≡◌, ℕ, suc, ◌+◌, ◌-◌, ◌*◌, ◌<◌, ◌≤◌, Bool, true, false, List, [], ◌∷◌, ◌++◌, Some, length, length-append, get_or, refl, sym}
+use Rattle.std.proofs.Common.{ap}
 use Rattle.std.proofs.Common.{subst, ◌∙◌, arith, inl, inr, le_antisymm, mul-one, slice_get}
 use Rattle.std.specs.Prelude.{All}
 use Rattle.std.proofs.lemmas.Bool.{cases_lt, false≢true}
@@ -17,7 +18,8 @@ use Rattle.dist_space.specs.ClusterLaws.{has-cluster}
 use Rattle.dist_space.specs.Space.{IsSpace, SpaceView, cluster_classes, variable_of}
 use Rattle.dist_space.specs.VariableLaws.{variable-range}
 use Rattle.dist_space.specs.declared.meaning.Meaning.TheVariants.{Present, At}
-use Rattle.dist_repair.specs.Counters.{AreAtClass, Counter, CountedModelsTell, HasCountedModel, ModelsTellMoves, class_clauses, count_clauses, counted_clauses}
+use Rattle.dist_repair.specs.Counters.{AreAtClass, Counter, CountedModelsTell, HasCountedModel, ModelsTellMoves, class_clauses, count_clauses}
+use Rattle.dist_repair.specs.Counters.{counted_clauses}
 use Rattle.dist_repair.specs.Counters.{counted_variables, counter_clauses, counter_of, each_below, more, moved, no, yes}
 use Rattle.dist_repair.specs.Repair.{IsInstallableByMoving, IsPossibleWithin}
 use Rattle.dist_repair.proofs.BelowLemmas.{all-below, all-left, all-right, at-below, below-all, length-below}

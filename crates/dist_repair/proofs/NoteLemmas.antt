@@ -1,9 +1,10 @@
 -- What is noted of one finding more.
-use Rattle.std.proofs.Common.{◌≡◌, ◌≢◌, ◌↔◌, ◌⊎◌, inl, inr, ℕ, ◌+◌, ◌*◌, ◌<◌, ◌≤◌, ◌&&◌, Bool, true, false, cond, List, [], ◌∷◌, ◌++◌, Option, Some, None}
+use Rattle.std.proofs.Common.{◌≡◌, ◌≢◌, ◌↔◌, ◌⊎◌, inl, inr, ℕ, ◌+◌, ◌<◌, ◌≤◌, ◌&&◌, Bool, true, false, List, [], ◌∷◌, ◌++◌, Option, Some, None}
 use Rattle.std.proofs.Common.{length, get_or, refl, sym, ap, ap₂, subst, ◌∙◌, arith, append_assoc}
-use Rattle.std.specs.Prelude.{All, Contains, nat_lt}
+use Rattle.std.specs.Prelude.{All, nat_lt}
 use Rattle.std.proofs.Math.ListN.{length-set, set}
-use Rattle.std.proofs.lemmas.Bool.{and_from, and_left, and_right, cases_Bool, cases_eq, cases_lt, cond-false, cond-true, false≢true, le-ltb, lt-ltb, ltb-false, ltb-true, true≢false}
+use Rattle.std.proofs.lemmas.Bool.{and_from, and_left, and_right, cases_Bool, cases_eq, cases_lt, cond-false, cond-true, false≢true, le-ltb, lt-ltb}
+use Rattle.std.proofs.lemmas.Bool.{ltb-false, ltb-true, true≢false}
 use Rattle.std.proofs.lemmas.Grind.{flat_map-append}
 use Rattle.std.proofs.lemmas.List.{append-nil, get_or-set_other, get_or-set_same}
 use Rattle.std.proofs.lemmas.List.Elements.{All-append, All-cons, All-nil, All-push, All-weaker, Contains-append_left, Contains-push, Contains-push_cases}
@@ -14,8 +15,10 @@ use Rattle.dist_space.specs.Space.{SpaceView}
 use Rattle.dist_subject.specs.Present.{truth_of}
 use Rattle.dist_findings.specs.declared.finding.Finding.{Finding}
 use Rattle.dist_findings.specs.declared.finding.Finding.TheVariants.{Refuted, LeftUndecided, Installed}
-use Rattle.dist_repair.specs.Answered.{Asked, AsksAlone, AsksAt, IsFirstLeast, IsLeft, IsLower, IsRefuted, IsUpper, beyond, installed, installed_in, moved_in, own, values_in}
-use Rattle.dist_repair.specs.NotesPrivate.{AreNotesOf, AreWordsOf, IsAlone, IsAt, IsAtNone, NotesLeft, NotesRefuted, NotesView, WordsView, is_fewer, noted_installed, raised}
+use Rattle.dist_repair.specs.Answered.{Asked, AsksAlone, AsksAt, IsLeft, IsLower, IsRefuted, IsUpper, beyond, installed, installed_in, moved_in, own}
+use Rattle.dist_repair.specs.Answered.{values_in}
+use Rattle.dist_repair.specs.NotesPrivate.{AreNotesOf, AreWordsOf, IsAlone, IsAt, NotesLeft, NotesRefuted, NotesView, WordsView, is_fewer, noted_installed}
+use Rattle.dist_repair.specs.NotesPrivate.{raised}
 
 -- ---- questions that are refuted or left undecided
 
@@ -396,7 +399,8 @@ module _ (s : SpaceView) (asked : Asked) where
       | inr not_fewer ↦ unchanged (and_right (is_among members n.words.own) (is_fewer n.upper (moved_in s members)) not_fewer)
           (upper-more found members n.upper has (old-least (installed s asked found) members n.upper are.upper not_fewer))
       | inl is_less ↦ subst (AreNotesOf s asked (found ++ Installed members ∷ []))
-          (sym (cond-true (is_among members n.words.own && is_fewer n.upper (moved_in s members)) (changed members n) n (and_from (is_among members n.words.own) (is_fewer n.upper (moved_in s members)) (own_word ∙ has) is_less)))
+          (sym (cond-true (is_among members n.words.own && is_fewer n.upper (moved_in s members)) (changed members n) n
+          (and_from (is_among members n.words.own) (is_fewer n.upper (moved_in s members)) (own_word ∙ has) is_less)))
           (with-installed found members n (Some (moved_in s members, truth_of (n.words.first + n.words.most) members)) are
           (subst (λ (values : List Bool). IsUpper s asked (installed s asked (found ++ Installed members ∷ [])) (Some (moved_in s members, values)))
           (ap (λ (v : ℕ). truth_of v members) (sym are.words.last_is))

@@ -1,6 +1,6 @@
 -- The clauses of a space are over its variables.
-use Rattle.std.proofs.Common.{◌≡◌, ℕ, ◌<◌, ◌≤◌, Bool, true, false, List, [], ◌∷◌, length, get_or, map, refl, sym, subst, ◌∙◌, arith, slice_get}
-use Rattle.std.specs.Prelude.{All, Any, Contains, IsSomeAnd, slice_index}
+use Rattle.std.proofs.Common.{◌≡◌, ℕ, ◌<◌, ◌≤◌, Bool, true, false, List, [], ◌∷◌, length, map, refl, sym, subst, arith, slice_get}
+use Rattle.std.specs.Prelude.{All, IsSomeAnd, slice_index}
 use Rattle.std.proofs.lemmas.List.Elements.{All-cons, All-contains, All-map, All-nil}
 use Rattle.dist_base.specs.ListLaws.{all-contained, any-contained, here-at, within-from}
 use Rattle.dist_clause.specs.Formula.{Literal, literal}
@@ -10,7 +10,7 @@ use Rattle.dist_space.specs.Space.{AreMeaningsOf, IsMeaning, IsMetBy, IsSpace, S
 use Rattle.dist_space.specs.VariableLaws.{variable-range}
 use Rattle.dist_space.specs.declared.meaning.Meaning.{Meaning}
 use Rattle.dist_space.specs.declared.meaning.Meaning.TheVariants.{Now, Present, At, New, Kept, Fresh}
-use Rattle.dist_space_clauses.specs.SpaceClauses.{AreSpaceClauses, Demand, Excludes, IsClauseFor, IsDemand, yes}
+use Rattle.dist_space_clauses.specs.SpaceClauses.{AreSpaceClauses, Demand, IsClauseFor, IsDemand, yes}
 use Rattle.dist_space_clauses.specs.SpaceClauses.{OneClass, Gone, Moved, Carried, OneFresh, Item, Apart, StaysNow, AbsentNow, Required}
 
 -- the variables of a clause are those from 1 to n
@@ -47,7 +47,8 @@ module _ (s : SpaceView) (space : IsSpace s) where
       subst Over (sym for_it) (two-over (Kept r k j) (New r k) false true is (package-there _ r is.0, is.1))
   demand-over (OneFresh x k l) clause is for_it = subst Over (sym for_it) (two-over (Fresh x k) (Fresh x l) false false (omega (arith, is.0, is.1)) is.1)
   demand-over (Item number place) clause is for_it =
-      let first = here-at (λ (p : Package). IsSomeAnd (slice_get p.depends place) (λ item. AreMeaningsOf s (IsMetBy s item) for_it.0)) s.repository.packages number for_it.1 in
+      let first = here-at (λ (p : Package). IsSomeAnd (slice_get p.depends place) (λ item. AreMeaningsOf s (IsMetBy s item) for_it.0))
+      s.repository.packages number for_it.1 in
       let second = here-at (λ (item : List Atom). AreMeaningsOf s (IsMetBy s item) for_it.0) first.element.depends place first.holds in
       subst Over (sym for_it.2) (All-cons InRange (literal (variable_of s (Present number)) false) (map (yes s) for_it.0)
       (variable-range s (Present number) space (package-there _ number for_it.1)) (row-over (IsMetBy s second.element) for_it.0 second.holds))

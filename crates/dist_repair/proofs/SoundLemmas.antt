@@ -1,10 +1,9 @@
 -- What the findings of an accepted file prove.
-use Rattle.std.proofs.Common.{◌≡◌, ◌≢◌, ◌↔◌, ◌⊎◌, inl, inr, ℕ, suc, ◌+◌, ◌-◌, ◌*◌, ◌<◌, ◌≤◌, ◌^◌, Bool, true, false, cond, List, [], ◌∷◌, ◌++◌, Option, Some, None}
+use Rattle.std.proofs.Common.{◌≡◌, ◌↔◌, inl, inr, ℕ, ◌+◌, ◌-◌, ◌<◌, ◌≤◌, ◌^◌, Bool, true, false, List, [], ◌∷◌, Some, None}
 use Rattle.std.proofs.Common.{length, get_or, refl, sym, ap, subst, ◌∙◌, arith, slice_get}
-use Rattle.std.specs.Prelude.{All, Contains, IfSome, IsSome}
-use Rattle.std.specs.List.{flat_map, range_with_len}
+use Rattle.std.specs.Prelude.{All, Contains}
+use Rattle.std.specs.List.{range_with_len}
 use Rattle.std.proofs.lemmas.Bool.{cases_Bool, cond-false, cond-true, false≢true, true≢false}
-use Rattle.std.proofs.lemmas.Grind.{flat_map-append}
 use Rattle.std.proofs.lemmas.List.Elements.{All-cons, All-contains, All-nil, Contains-append_cases, Contains-append_right, filter_agree}
 use Rattle.std.proofs.lemmas.Option.{slice_get_within}
 use Rattle.dist_base.specs.ListLaws.{all-contained}
@@ -27,8 +26,8 @@ use Rattle.dist_subject.specs.TruthLaws.{truth-length}
 use Rattle.dist_findings.specs.SoundLaws.{IsSound}
 use Rattle.dist_findings.specs.declared.finding.Finding.{Finding}
 use Rattle.dist_findings.specs.declared.finding.Finding.TheVariants.{Refuted, LeftUndecided, Installed}
-use Rattle.dist_repair.specs.Answered.{Answers, Asked, AsksAlone, AsksAt, EndsAt, IsFirstLeast, IsLeft, IsLeftAt, IsLower, IsRefuted, IsUpper, beyond, clusters_under, installed}
-use Rattle.dist_repair.specs.Answered.{installed_in, is_at_class, moved_in, own, values_in}
+use Rattle.dist_repair.specs.Answered.{Answers, Asked, AsksAlone, AsksAt, IsLeft, IsLeftAt, IsLower, IsRefuted, IsUpper, beyond, clusters_under, installed}
+use Rattle.dist_repair.specs.Answered.{installed_in, is_at_class, own, values_in}
 use Rattle.dist_repair.specs.Counters.{AreAtClass, CountedModelsTell, ModelsTellMoves, counted_clauses, counted_variables, counter_clauses, counter_of, more}
 use Rattle.dist_repair.specs.Means.{IsBound, IsPlan, Says}
 use Rattle.dist_repair.specs.Repair.{IsPossible}

@@ -1,7 +1,6 @@
 -- From what is answered of a file to its verdict.
-use Rattle.std.proofs.Common.{◌≡◌, ℕ, true, List, Option, Some, None, Result, Ok, Err, sym, subst}
+use Rattle.std.proofs.Common.{ℕ, true, List, Option, Some, None, Ok, sym, subst}
 use Rattle.dist_outside.specs.declared.limits.Limits.{Limits}
-use Rattle.dist_outside.specs.declared.trouble.WorkError.{WorkError}
 use Rattle.dist_cert.specs.declared.faults.CertFault.{CertFault}
 use Rattle.dist_cert.specs.declared.faults.ReadCertError.TheVariants.{Bad}
 use Rattle.dist_cert.specs.ClearFormsLaws.{FormsAreClear}

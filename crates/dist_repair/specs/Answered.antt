@@ -1,7 +1,8 @@
 -- What the findings of a repair's file answer, of a space of futures with its counter: bounds of how many clusters must
 -- move for a package. Packages and clusters are numbered from 0.
-use Rattle.std.specs.Prelude.{◌≡◌, ◌≢◌, ◌⊎◌, ℕ, ◌+◌, ◌-◌, ◌<◌, ◌≤◌, Bool, true, false, List, [], ◌∷◌, ◌++◌, All, Contains}
-use Rattle.std.specs.Prelude.{Option, Some, None, IfSome, IsSome, filter, if◌then◌else◌, length}
+use Rattle.std.specs.Prelude.{◌≡◌, ◌≢◌, ◌⊎◌, ℕ, ◌+◌, ◌-◌, ◌<◌, ◌≤◌, Bool, true, false, List, [], ◌∷◌, ◌++◌, All}
+use Rattle.std.specs.Prelude.{Contains}
+use Rattle.std.specs.Prelude.{Option, Some, None, filter, if◌then◌else◌, length}
 use Rattle.std.specs.List.{flat_map, list_any, range_with_len}
 use Rattle.dist_cert.specs.ClaimRules.{no, yes}
 use Rattle.dist_cert.specs.Form.{Word}
@@ -118,4 +119,5 @@ Answers s asked found Outdated = IsRefuted (AsksAlone s asked) found
 Answers s asked found (Least number values) = (¬ IsRefuted (AsksAlone s asked) found) × IsLower s asked found number
     × IsUpper s asked (installed s asked found) (Some (number, values))
 Answers s asked found (AtLeast lower undecided upper) = (¬ IsRefuted (AsksAlone s asked) found)
-    × IsLower s asked found lower × IsUpper s asked (installed s asked found) upper × EndsAt s asked found lower undecided upper
+    × IsLower s asked found lower × IsUpper s asked (installed s asked found) upper
+    × EndsAt s asked found lower undecided upper

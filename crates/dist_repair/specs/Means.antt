@@ -1,5 +1,5 @@
 -- What a repair says of how many clusters must move for a package.
-use Rattle.std.specs.Prelude.{◌≡◌, ℕ, ◌<◌, Bool, false, List, Option, IfSome, IsSome, length}
+use Rattle.std.specs.Prelude.{◌≡◌, ℕ, ◌<◌, Bool, false, List, IfSome, IsSome, length}
 use Rattle.dist_clause.specs.Formula.{value_of}
 use Rattle.dist_repo.specs.declared.package.Package.{Package}
 use Rattle.dist_space.specs.Space.{SpaceView}

@@ -1,5 +1,5 @@
 -- Serves private contracts: what is noted of the findings of a repair's file, and what it answers.
-use Rattle.std.specs.Prelude.{◌≡◌, ◌↔◌, ◌==◌, ◌||◌, ◌&&◌, ◌⊎◌, ℕ, ◌+◌, ◌<◌, ◌≤◌, Bool, true, false, List, [], ◌∷◌, length}
+use Rattle.std.specs.Prelude.{◌≡◌, ◌↔◌, ◌==◌, ◌||◌, ◌&&◌, ◌⊎◌, ℕ, ◌+◌, ◌≤◌, Bool, true, false, List, [], ◌∷◌, length}
 use Rattle.std.specs.Prelude.{Option, Some, None, if◌then◌else◌, nat_le, nat_lt, slice_index_or, slice_set}
 use Rattle.dist_cert.specs.ClaimRules.{no, yes}
 use Rattle.dist_cert.specs.Form.{Word}
@@ -9,7 +9,7 @@ use Rattle.dist_subject.specs.Present.{truth_of}
 use Rattle.dist_findings.specs.declared.file.Answered.{Answered}
 use Rattle.dist_findings.specs.declared.file.Answered.TheVariants as answered
 use Rattle.dist_findings.specs.declared.finding.Finding.{Finding}
-use Rattle.dist_repair.specs.Answered.{Answers, Asked, AsksAlone, AsksAt, IsLeft, IsLower, IsRefuted, IsUpper}
+use Rattle.dist_repair.specs.Answered.{Asked, AsksAlone, AsksAt, IsLeft, IsLower, IsRefuted, IsUpper}
 use Rattle.dist_repair.specs.Answered.{beyond, installed, moved_in, own}
 use Rattle.dist_repair.specs.Counters.{counted_variables, counter_of}
 use Rattle.dist_repair.specs.declared.repair.Repair.{Repair}
@@ -82,7 +82,8 @@ NotesRefuted n question m = (IsAlone n.words question × (m ≡ record n { outda
 
 abbrev pub NotesLeft : NotesView → List Word → NotesView → Type 0
 NotesLeft n question m = (IsAlone n.words question × (m ≡ record n { alone_left = true }))
-    ⊎ ((¬ IsAlone n.words question) × (((j : ℕ) × IsAt n.words question j × (m ≡ record n { left = slice_set n.left j true }))
+    ⊎ ((¬ IsAlone n.words question)
+    × (((j : ℕ) × IsAt n.words question j × (m ≡ record n { left = slice_set n.left j true }))
     ⊎ (IsAtNone n.words question × (m ≡ n))))
 
 -- fewer than the upper bound, or there is none

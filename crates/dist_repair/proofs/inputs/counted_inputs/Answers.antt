@@ -1,4 +1,4 @@
-use Rattle.std.proofs.Common.{◌≡◌, ◌≤◌, ◌∙◌, ap, sym, subst, arith}
+use Rattle.std.proofs.Common.{◌≡◌, ◌∙◌, ap, sym, subst, arith}
 use Rattle.dist_judge.specs.Causes.{IsLarge}
 use Rattle.dist_repair.specs.Counters.{Counter, counted_variables, counter_of}
 use Rattle.dist_repair.specs.RepairFiles.{PassesWith}

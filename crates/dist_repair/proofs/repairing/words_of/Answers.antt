@@ -1,7 +1,7 @@
-use Rattle.std.proofs.Common.{◌≤◌, ℕ, ◌-◌, ◌∙◌, ap, arith}
+use Rattle.std.proofs.Common.{ℕ, ◌-◌, ◌∙◌, ap, arith}
 use Rattle.dist_space.specs.Space.{variable_of}
 use Rattle.dist_space.specs.declared.meaning.Meaning.TheVariants.{Present}
-use Rattle.dist_repair.proofs.InputsLemmas.{few-numbers, in-packages, most-within, words-right}
+use Rattle.dist_repair.proofs.InputsLemmas.{most-within, words-right}
 use Rattle.dist_repair.proofs.repairing.words_of.Goals as goal
 
 pub overflow_sub-result : goal.overflow_sub-result

@@ -1,5 +1,5 @@
-use Rattle.std.proofs.Common.{◌<◌, arith}
-use Rattle.dist_repair.proofs.InputsLemmas.{large-input, right-set, too-much, wrong-set}
+use Rattle.std.proofs.Common.{arith}
+use Rattle.dist_repair.proofs.InputsLemmas.{too-much}
 use Rattle.dist_repair.proofs.repairing.RepairingAnswering.inputs.Goals as goal
 
 pub returns-then-most-gt-MAX_MOST-clause-ok : goal.returns-then-most-gt-MAX_MOST-clause-ok
