@@ -1,15 +1,16 @@
 -- What notes answer is what their findings answer.
 use Rattle.std.proofs.Common.{◌≡◌, ◌≢◌, ◌↔◌, ◌⊎◌, inl, inr, ℕ, ◌+◌, ◌<◌, ◌≤◌, ◌==◌, ◌||◌, Bool, true, false, List, ◌∷◌, Option, Some, None, length}
-use Rattle.std.proofs.Common.{get_or, refl, sym, ap, subst, ◌∙◌, arith}
+use Rattle.std.proofs.Common.{◌++◌, get_or, refl, sym, ap, ap₂, subst, ◌∙◌, arith}
 use Rattle.std.specs.Prelude.{Contains, nat_le, nat_lt}
 use Rattle.std.proofs.lemmas.Bool.{and_from, and_parts, cases_Bool, cond-false, cond-true, eq-eqb, eqb-false, eqb-true, le-leb, leb-false, leb-true, lt-leb}
 use Rattle.std.proofs.lemmas.Bool.{lt-ltb, ltb-true}
 use Rattle.std.proofs.lemmas.Bool.{or_cases, or_left, or_right, true≢false}
+use Rattle.std.proofs.lemmas.List.{get_or_append_left, get_or_at}
 use Rattle.std.proofs.lemmas.List.Elements.{All-contains, Contains-append_cases, Contains-append_right}
 use Rattle.dist_cert.specs.ListLaws.{contains-cases}
 use Rattle.dist_space.specs.Space.{SpaceView}
 use Rattle.dist_findings.specs.declared.finding.Finding.{Finding}
-use Rattle.dist_repair.specs.Answered.{Answers, Asked, AsksAlone, IsFirstLeast, IsLeftAt, IsLower, IsRefuted, IsUpper, installed, moved_in}
+use Rattle.dist_repair.specs.Answered.{Answers, Asked, AsksAlone, EndsAt, IsFirstLeast, IsLeftAt, IsLower, IsRefuted, IsUpper, installed, moved_in, values_in}
 use Rattle.dist_repair.specs.NotesPrivate.{AreNotesOf, NotesView, answer_by, answer_of, ends_by, has_answer, is_at_end}
 use Rattle.dist_repair.specs.RepairFiles.{IsDecided}
 use Rattle.dist_repair.specs.declared.repair.Repair.{Repair}
@@ -174,3 +175,76 @@ module _ (s : SpaceView) (asked : Asked) (found : List Finding) where
 
   pub answer-decides : (n : NotesView) → AreNotesOf s asked found n → (has_answer n ≡ true) ↔ IsDecided s asked found
   answer-decides n are = ((λ on. (answer_of n, answer-right n are on)), λ decided. answer-there n are decided.0 decided.1)
+
+  -- ---- one answer
+
+  -- what stands at the place behind a front
+  at-front : (front : List (List ℕ)) (x : List ℕ) (rest : List (List ℕ)) (all : List (List ℕ)) (d : List ℕ) → all ≡ front ++ x ∷ rest
+      → get_or all (length front) d ≡ x
+  at-front front x rest all d is = ap (λ (xs : List (List ℕ)). get_or xs (length front) d) is ∙ get_or_at front x rest d (length front) refl
+
+  -- of two firsts with the fewest none stands before the other
+  not-earlier : (all : List (List ℕ)) (a b : List ℕ) (first : IsFirstLeast s all a) (second : IsFirstLeast s all b)
+      → ¬ (length first.earlier < length second.earlier)
+  not-earlier all a b first second less =
+      let here : get_or second.earlier (length first.earlier) a ≡ a =
+      sym (get_or_append_left second.earlier (b ∷ second.later) a (length first.earlier) less)
+      ∙ ap (λ (xs : List (List ℕ)). get_or xs (length first.earlier) a) (sym second.stands) ∙ at-front first.earlier a first.later all a first.stands in
+      let more = All-contains (λ other. moved_in s b < moved_in s other) second.earlier a second.first (length first.earlier, less, here) in
+      let few = fewest all a b first (stands-there all b second) in
+      omega (arith, more, few)
+
+  one-first : (all : List (List ℕ)) (a b : List ℕ) → IsFirstLeast s all a → IsFirstLeast s all b → a ≡ b
+  one-first all a b first second =
+      let one = not-earlier all a b first second in
+      let two = not-earlier all b a second first in
+      let same : length first.earlier ≡ length second.earlier = omega (arith, one, two) in
+      sym (at-front first.earlier a first.later all a first.stands) ∙ ap (λ (k : ℕ). get_or all k a) same
+      ∙ at-front second.earlier b second.later all a second.stands
+
+  upper-same : (all : List (List ℕ)) (u v : ℕ × List Bool) → IsUpper s asked all (Some u) → IsUpper s asked all (Some v) → u ≡ v
+  upper-same all u v (a, first, count, values) (b, second, also, others) =
+      let same = one-first all a b first second in
+      ap₂ (λ (x : ℕ) (y : List Bool). (x, y)) (count ∙ ap (moved_in s) same ∙ sym also)
+      (values ∙ ap (λ (ms : List ℕ). values_in s asked ms) same ∙ sym others)
+
+  -- where the bounds meet, they don't end apart
+  met : (n : ℕ) (v : List Bool) (l : ℕ) (b : Bool) (u : Option (ℕ × List Bool)) → n ≡ l → IsUpper s asked (installed s asked found) (Some (n, v))
+      → IsUpper s asked (installed s asked found) u → ¬ EndsAt s asked found l b u
+  met n v l b None same up upper ends = some-upper (installed s asked found) (n, v) up upper
+  met n v l true (Some u) same up upper ends = ends.0 (one-upper (installed s asked found) u (n, v) upper up ∙ same)
+  met n v l false (Some u) same up upper ends = ends.0 (one-upper (installed s asked found) u (n, v) upper up ∙ same)
+
+  pub one-answer : (first second : Repair) → Answers s asked found first → Answers s asked found second → first ≡ second
+  one-answer repair.Outdated repair.Outdated is also = refl
+  one-answer repair.Outdated (repair.Least n v) is also = absurd (also.0 is)
+  one-answer repair.Outdated (repair.AtLeast l b u) is also = absurd (also.0 is)
+  one-answer (repair.Least n v) repair.Outdated is also = absurd (is.0 also)
+  one-answer (repair.AtLeast l b u) repair.Outdated is also = absurd (is.0 also)
+  one-answer (repair.Least n v) (repair.Least m w) (alive, low, up) (also, lower, upper) =
+      ap (λ (u : ℕ × List Bool). repair.Least u.0 u.1) (upper-same (installed s asked found) (n, v) (m, w) up upper)
+  one-answer (repair.Least n v) (repair.AtLeast l b u) (alive, low, up) (also, lower, upper, ends) =
+      absurd (met n v l b u (one-lower n l low lower) up upper ends)
+  one-answer (repair.AtLeast l b u) (repair.Least n v) (also, lower, upper, ends) (alive, low, up) =
+      absurd (met n v l b u (one-lower n l low lower) up upper ends)
+  one-answer (repair.AtLeast l b u) (repair.AtLeast k c w) (alive, low, up, ends) (also, lower, upper, others) =
+      same-ends l k b c u w (one-lower l k low lower) up upper ends others
+    where
+      same-ends : (l k : ℕ) (b c : Bool) (u w : Option (ℕ × List Bool)) → l ≡ k → IsUpper s asked (installed s asked found) u
+          → IsUpper s asked (installed s asked found) w → EndsAt s asked found l b u → EndsAt s asked found k c w
+          → repair.AtLeast l b u ≡ repair.AtLeast k c w
+      same-ends l k true true None None same up upper ends others = ap (λ (x : ℕ). repair.AtLeast x true None) same
+      same-ends l k false c None w same up upper ends others = absurd ends
+      same-ends l k b false u None same up upper ends others = absurd others
+      same-ends l k b c None (Some w) same up upper ends others = absurd (some-upper (installed s asked found) w upper up)
+      same-ends l k b c (Some u) None same up upper ends others = absurd (some-upper (installed s asked found) u up upper)
+      same-ends l k true true (Some u) (Some w) same up upper ends others =
+          ap₂ (λ (x : ℕ) (y : ℕ × List Bool). repair.AtLeast x true (Some y)) same (upper-same (installed s asked found) u w up upper)
+      same-ends l k false false (Some u) (Some w) same up upper ends others =
+          ap₂ (λ (x : ℕ) (y : ℕ × List Bool). repair.AtLeast x false (Some y)) same (upper-same (installed s asked found) u w up upper)
+      same-ends l k true false (Some u) (Some w) same up upper ends others =
+          let within = ends.1.0 in
+          let past = others.1 in absurd (omega (arith, same, within, past))
+      same-ends l k false true (Some u) (Some w) same up upper ends others =
+          let past = ends.1 in
+          let within = others.1.0 in absurd (omega (arith, same, within, past))

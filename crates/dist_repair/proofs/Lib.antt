@@ -14,3 +14,4 @@ pub mod HardLemmas
 pub mod SoundLemmas
 pub mod AcceptedLemmas
 pub mod VerdictLemmas
+pub mod OneAnswerLemmas

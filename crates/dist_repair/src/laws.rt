@@ -1,6 +1,7 @@
 //! What the clauses that count mean, and what files prove. The functions do nothing.
-ghost use Rattle.std.specs.Prelude.{ℕ, List};
+ghost use Rattle.std.specs.Prelude.{◌≡◌, ℕ, List, Result};
 ghost use Rattle.dist_outside.specs.declared.limits.Limits.{Limits};
+ghost use Rattle.dist_outside.specs.declared.trouble.WorkError.{WorkError};
 ghost use Rattle.dist_clause.specs.Formula.{Literal};
 ghost use Rattle.dist_space.specs.Space.{IsSpace, SpaceView};
 ghost use Rattle.dist_space_clauses.specs.SpaceClauses.{AreSpaceClauses};
@@ -8,13 +9,15 @@ ghost use Rattle.dist_findings.specs.Answers.{IsAnswered};
 ghost use Rattle.dist_repair.specs.Answered.{Answers};
 ghost use Rattle.dist_repair.specs.Counters.{CountedModelsTell, ModelsTellMoves};
 ghost use Rattle.dist_repair.specs.RepairFiles.{asked_by, repair_files};
-ghost use Rattle.dist_repair.specs.Verdicts.{AcceptedSays, IsHeaderOf};
+ghost use Rattle.dist_repair.specs.Verdicts.{AcceptedSays, IsHeaderOf, IsOfText, RepairAnswers};
 ghost use Rattle.dist_repair.specs.declared.repair.Repair.{Repair};
 ghost use Rattle.dist_repair.specs.declared.verdict.RepairHeader.{RepairHeader};
+ghost use Rattle.dist_repair.specs.declared.verdict.RepairVerdict.{RepairVerdict};
 
 use dist_cert::forms_are_clear;
 use dist_derive::{lines_keep_models, new_lines_are_few};
 use dist_future::{each_model_is_a_future, models_tell_of_moves};
+use dist_space_clauses::space_clauses_are_one;
 
 /// What models tell of how many clusters must move for a package.
 pub fn counters_count_moves()
@@ -37,4 +40,14 @@ pub fn accepted_repairs_hold()
     new_lines_are_few();
     models_tell_of_moves();
     counters_count_moves();
+}
+
+/// A text has one answer, but for a fault of reading and want of memory: that a number is passed, a verdict and what is answered,
+/// for two, exclude each other.
+pub fn repairs_have_one_answer()
+    ensures { (s : SpaceView) (limits : Limits) (text : List ℕ) (result other : Result RepairVerdict WorkError)
+        → RepairAnswers s limits text result → RepairAnswers s limits text other → IsOfText result → IsOfText other → other ≡ result }
+{
+    forms_are_clear();
+    space_clauses_are_one();
 }

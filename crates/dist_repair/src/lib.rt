@@ -18,7 +18,7 @@ mod words;
 
 pub use checking::check_repair;
 pub use counted::with_counter;
-pub use laws::{accepted_repairs_hold, counters_count_moves};
+pub use laws::{accepted_repairs_hold, counters_count_moves, repairs_have_one_answer};
 pub use repair::Repair;
 pub use verdict::{RepairHeader, RepairVerdict};
 
