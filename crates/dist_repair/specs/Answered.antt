@@ -40,10 +40,11 @@ abbrev pub AsksAt : SpaceView → Asked → (j : ℕ) → List Word → Type 0
 AsksAt s asked j question = (question ≡ yes (own s asked) ∷ no (beyond s asked j) ∷ [])
     ⊎ (question ≡ no (beyond s asked j) ∷ yes (own s asked) ∷ [])
 
--- such a question is refuted, or left undecided
+-- some question of which this holds is refuted
 abbrev pub IsRefuted : (List Word → Type 0) → List Finding → Type 0
 IsRefuted Asks found = (question : List Word) × Asks question × Contains found (Refuted question)
 
+-- some question of which this holds is left undecided
 abbrev pub IsLeft : (List Word → Type 0) → List Finding → Type 0
 IsLeft Asks found = (question : List Word) × Asks question × Contains found (LeftUndecided question)
 

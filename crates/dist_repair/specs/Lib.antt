@@ -4,6 +4,7 @@ pub mod Answered
 pub mod RepairFiles
 pub mod Means
 pub mod Verdicts
+pub mod RepairExamples
 pub mod CountedPrivate
 pub mod InputsPrivate
 pub mod NotesPrivate

@@ -13,14 +13,16 @@ use Rattle.dist_repair.specs.Counters.{PassesCounted, counted_clauses, counted_v
 use Rattle.dist_repair.specs.declared.TheConstants.{MAX_MOST}
 use Rattle.dist_repair.specs.declared.repair.Repair.{Repair}
 
--- the numbers of a first line, in order: the limit, the numbers of packages, of variables and of clauses, the package,
--- from 1, and the most that is counted to
+-- The numbers of a first line, in order: the limit, the numbers of packages, of variables and of clauses, the package,
+-- from 1, and the most that is counted to. One of them, by its place from 0:
 abbrev pub number_at : ℕ → List ℕ → ℕ
 number_at place numbers = slice_index_or numbers place 0
 
+-- the most that is counted to
 abbrev pub most_of : List ℕ → ℕ
 most_of numbers = number_at 5 numbers
 
+-- what is asked of
 abbrev pub asked_by : List ℕ → Asked
 asked_by numbers = record { number = number_at 4 numbers - 1; most = most_of numbers }
 

@@ -46,7 +46,7 @@ pub(crate) fn moved_in(space: &Space, members: &[u32]) -> u32
     requires { AreRising members.now }
     ensures { result ≡ moved_in space.now members.now }
 {
-    let mut count = 0;
+    let mut count: u32 = 0;
     for cluster in 0..space.clusters().len() {
         if is_at_class(space, members, cluster) {
             count += 1;
