@@ -1,7 +1,7 @@
 -- What is noted of one finding more.
 use Rattle.std.proofs.Common.{◌≡◌, ◌≢◌, ◌↔◌, ◌⊎◌, inl, inr, ℕ, ◌+◌, ◌<◌, ◌≤◌, ◌&&◌, Bool, true, false, List, [], ◌∷◌, ◌++◌, Option, Some, None}
 use Rattle.std.proofs.Common.{length, get_or, refl, sym, ap, ap₂, subst, ◌∙◌, arith, append_assoc}
-use Rattle.std.specs.Prelude.{All, nat_lt}
+use Rattle.std.specs.Prelude.{All, Contains, nat_lt}
 use Rattle.std.proofs.Math.ListN.{length-set, set}
 use Rattle.std.proofs.lemmas.Bool.{and_from, and_left, and_right, cases_Bool, cases_eq, cases_lt, cond-false, cond-true, false≢true, le-ltb, lt-ltb}
 use Rattle.std.proofs.lemmas.Bool.{ltb-false, ltb-true, true≢false}
@@ -20,69 +20,56 @@ use Rattle.dist_repair.specs.Answered.{values_in}
 use Rattle.dist_repair.specs.NotesPrivate.{AreNotesOf, AreWordsOf, IsAlone, IsAt, NotesLeft, NotesRefuted, NotesView, WordsView, is_fewer, noted_installed}
 use Rattle.dist_repair.specs.NotesPrivate.{raised}
 
--- ---- questions that are refuted or left undecided
+-- ---- questions that are closed one way: refuted, or left undecided
 
-more-refuted : (Asks : List Word → Type 0) (found : List Finding) (f : Finding) → IsRefuted Asks found → IsRefuted Asks (found ++ f ∷ [])
-more-refuted Asks found f is = (is.0, is.1, Contains-append_left found (f ∷ []) (Refuted is.0) is.2)
+-- some question of which this holds is closed so
+abbrev IsClosed : (List Word → Finding) → (List Word → Type 0) → List Finding → Type 0
+IsClosed As Asks found = (question : List Word) × Asks question × Contains found (As question)
 
-new-refuted : (Asks : List Word → Type 0) (found : List Finding) (question : List Word) → Asks question
-    → IsRefuted Asks (found ++ Refuted question ∷ [])
-new-refuted Asks found question asks = (question, asks, Contains-push found (Refuted question))
+one-refuted : (question other : List Word) → Refuted question ≡ Refuted other → question ≡ other
+one-refuted question other same = cc
 
-refuted-cases : (Asks : List Word → Type 0) (found : List Finding) (f : Finding) → IsRefuted Asks (found ++ f ∷ [])
-    → IsRefuted Asks found ⊎ ((question : List Word) × Asks question × (f ≡ Refuted question))
-refuted-cases Asks found f is = elim (Contains-push_cases found f (Refuted is.0) is.2) [
-  | inl earlier ↦ inl (is.0, is.1, earlier)
-  | inr same ↦ inr (is.0, is.1, same)
-]
+one-left : (question other : List Word) → LeftUndecided question ≡ LeftUndecided other → question ≡ other
+one-left question other same = cc
 
--- a refuted question that is none of these adds none
-old-refuted : (Asks : List Word → Type 0) (found : List Finding) (question : List Word) → ¬ Asks question
-    → IsRefuted Asks (found ++ Refuted question ∷ []) → IsRefuted Asks found
-old-refuted Asks found question none is = elim (refuted-cases Asks found (Refuted question) is) [
-  | inl earlier ↦ earlier
-  | inr new ↦ let same : new.0 ≡ question = cc (new.2) in absurd (none (subst Asks same new.1))
-]
+module _ (As : List Word → Finding) (one : (question other : List Word) → As question ≡ As other → question ≡ other) (Asks : List Word → Type 0)
+    (found : List Finding) where
+  more-closed : (f : Finding) → IsClosed As Asks found → IsClosed As Asks (found ++ f ∷ [])
+  more-closed f is = (is.0, is.1, Contains-append_left found (f ∷ []) (As is.0) is.2)
 
--- nor does what is no refuted question
-still-refuted : (Asks : List Word → Type 0) (found : List Finding) (f : Finding) → ((question : List Word) → f ≢ Refuted question)
-    → IsRefuted Asks (found ++ f ∷ []) → IsRefuted Asks found
-still-refuted Asks found f none is = elim (refuted-cases Asks found f is) [
-  | inl earlier ↦ earlier
-  | inr new ↦ absurd (none new.0 new.2)
-]
+  new-closed : (question : List Word) → Asks question → IsClosed As Asks (found ++ As question ∷ [])
+  new-closed question asks = (question, asks, Contains-push found (As question))
 
-more-left : (Asks : List Word → Type 0) (found : List Finding) (f : Finding) → IsLeft Asks found → IsLeft Asks (found ++ f ∷ [])
-more-left Asks found f is = (is.0, is.1, Contains-append_left found (f ∷ []) (LeftUndecided is.0) is.2)
+  closed-cases : (f : Finding) → IsClosed As Asks (found ++ f ∷ []) → IsClosed As Asks found ⊎ ((question : List Word) × Asks question × (f ≡ As question))
+  closed-cases f is = elim (Contains-push_cases found f (As is.0) is.2) [
+    | inl earlier ↦ inl (is.0, is.1, earlier)
+    | inr same ↦ inr (is.0, is.1, same)
+  ]
 
-new-left : (Asks : List Word → Type 0) (found : List Finding) (question : List Word) → Asks question
-    → IsLeft Asks (found ++ LeftUndecided question ∷ [])
-new-left Asks found question asks = (question, asks, Contains-push found (LeftUndecided question))
+  -- a question that is none of these adds none, and neither does what is closed in another way
+  old-closed : (question : List Word) → ¬ Asks question → IsClosed As Asks (found ++ As question ∷ []) → IsClosed As Asks found
+  old-closed question none is = elim (closed-cases (As question) is) [
+    | inl earlier ↦ earlier
+    | inr new ↦ absurd (none (subst Asks (sym (one question new.0 new.2)) new.1))
+  ]
 
-left-cases : (Asks : List Word → Type 0) (found : List Finding) (f : Finding) → IsLeft Asks (found ++ f ∷ [])
-    → IsLeft Asks found ⊎ ((question : List Word) × Asks question × (f ≡ LeftUndecided question))
-left-cases Asks found f is = elim (Contains-push_cases found f (LeftUndecided is.0) is.2) [
-  | inl earlier ↦ inl (is.0, is.1, earlier)
-  | inr same ↦ inr (is.0, is.1, same)
-]
+  still-closed : (f : Finding) → ((question : List Word) → f ≢ As question) → IsClosed As Asks (found ++ f ∷ []) → IsClosed As Asks found
+  still-closed f none is = elim (closed-cases f is) [
+    | inl earlier ↦ earlier
+    | inr new ↦ absurd (none new.0 new.2)
+  ]
 
-old-left : (Asks : List Word → Type 0) (found : List Finding) (question : List Word) → ¬ Asks question
-    → IsLeft Asks (found ++ LeftUndecided question ∷ []) → IsLeft Asks found
-old-left Asks found question none is = elim (left-cases Asks found (LeftUndecided question) is) [
-  | inl earlier ↦ earlier
-  | inr new ↦ let same : new.0 ≡ question = cc (new.2) in absurd (none (subst Asks same new.1))
-]
+  -- so their mark stays
+  old-mark : (b : Bool) (question : List Word) → ¬ Asks question → (b ≡ true) ↔ IsClosed As Asks found
+      → (b ≡ true) ↔ IsClosed As Asks (found ++ As question ∷ [])
+  old-mark b question none mark = (
+    (λ is. more-closed (As question) (mark.0 is)),
+    λ is. mark.1 (old-closed question none is),
+  )
 
-still-left : (Asks : List Word → Type 0) (found : List Finding) (f : Finding) → ((question : List Word) → f ≢ LeftUndecided question)
-    → IsLeft Asks (found ++ f ∷ []) → IsLeft Asks found
-still-left Asks found f none is = elim (left-cases Asks found f is) [
-  | inl earlier ↦ earlier
-  | inr new ↦ absurd (none new.0 new.2)
-]
-
--- a mark that is not touched
-same-mark : (P Q : Type 0) (b : Bool) → (P → Q) → (Q → P) → (b ≡ true) ↔ P → (b ≡ true) ↔ Q
-same-mark P Q b to back mark = ((λ is. to (mark.0 is)), λ q. mark.1 (back q))
+  still-mark : (b : Bool) (f : Finding) → ((question : List Word) → f ≢ As question) → (b ≡ true) ↔ IsClosed As Asks found
+      → (b ≡ true) ↔ IsClosed As Asks (found ++ f ∷ [])
+  still-mark b f none mark = ((λ is. more-closed f (mark.0 is)), λ is. mark.1 (still-closed f none is))
 
 module _ (s : SpaceView) (asked : Asked) where
   -- ---- which question it is
@@ -139,7 +126,7 @@ module _ (s : SpaceView) (asked : Asked) where
   lower-same found f l back low = record {
     shown = elim low.shown [
       | inl none ↦ inl none
-      | inr at ↦ inr (at.0, at.1, at.2, more-refuted (AsksAt s asked at.0) found f at.3)
+      | inr at ↦ inr (at.0, at.1, at.2, more-closed Refuted one-refuted (AsksAt s asked at.0) found f at.3)
     ];
     greatest = λ j upto is. low.greatest j upto (back j upto is);
   }
@@ -150,16 +137,16 @@ module _ (s : SpaceView) (asked : Asked) where
     | inl less ↦ subst (IsLower s asked (found ++ Refuted question ∷ [])) (sym (cond-true (nat_lt j l) l (j + 1) (lt-ltb j l less))) (record {
       shown = elim low.shown [
         | inl none ↦ inl none
-        | inr at ↦ inr (at.0, at.1, at.2, more-refuted (AsksAt s asked at.0) found (Refuted question) at.3)
+        | inr at ↦ inr (at.0, at.1, at.2, more-closed Refuted one-refuted (AsksAt s asked at.0) found (Refuted question) at.3)
       ];
-      greatest = λ i within is. elim (refuted-cases (AsksAt s asked i) found (Refuted question) is) [
+      greatest = λ i within is. elim (closed-cases Refuted one-refuted (AsksAt s asked i) found (Refuted question) is) [
         | inl earlier ↦ low.greatest i within earlier
         | inr new ↦ let same = this i new.0 new.1 new.2 in omega (arith, same, less)
       ];
     })
     | inr more ↦ subst (IsLower s asked (found ++ Refuted question ∷ [])) (sym (cond-false (nat_lt j l) l (j + 1) (le-ltb j l more))) (record {
-      shown = inr (j, refl, upto, new-refuted (AsksAt s asked j) found question asks);
-      greatest = λ i within is. elim (refuted-cases (AsksAt s asked i) found (Refuted question) is) [
+      shown = inr (j, refl, upto, new-closed Refuted one-refuted (AsksAt s asked j) found question asks);
+      greatest = λ i within is. elim (closed-cases Refuted one-refuted (AsksAt s asked i) found (Refuted question) is) [
         | inl earlier ↦ let less = low.greatest i within earlier in omega (arith, less, more)
         | inr new ↦ let same = this i new.0 new.1 new.2 in omega (arith, same)
       ];
@@ -187,99 +174,72 @@ module _ (s : SpaceView) (asked : Asked) where
 
   -- ---- a question
 
+  -- what is closed in another way leaves the marks of questions that are left undecided, and of refuted ones
+  left-stays : (found : List Finding) (f : Finding) → ((question : List Word) → f ≢ LeftUndecided question) → (Asks : List Word → Type 0) (b : Bool)
+      → (b ≡ true) ↔ IsLeft Asks found → (b ≡ true) ↔ IsLeft Asks (found ++ f ∷ [])
+  left-stays found f none Asks b = still-mark LeftUndecided one-left Asks found b f none
+
+  refuted-stays : (found : List Finding) (f : Finding) → ((question : List Word) → f ≢ Refuted question) → (Asks : List Word → Type 0) (b : Bool)
+      → (b ≡ true) ↔ IsRefuted Asks found → (b ≡ true) ↔ IsRefuted Asks (found ++ f ∷ [])
+  refuted-stays found f none Asks b = still-mark Refuted one-refuted Asks found b f none
+
+  lower-stays : (found : List Finding) (f : Finding) → ((question : List Word) → f ≢ Refuted question) → (l : ℕ) → IsLower s asked found l
+      → IsLower s asked (found ++ f ∷ []) l
+  lower-stays found f none l = lower-same found f l (λ j upto. still-closed Refuted one-refuted (AsksAt s asked j) found f none)
+
   pub notes-refuted : (found : List Finding) (question : List Word) (n m : NotesView) → AreNotesOf s asked found n → NotesRefuted n question m
       → AreNotesOf s asked (found ++ Refuted question ∷ []) m
   notes-refuted found question n m are (inl alone) =
       let asks = alone-asks n.words are.words question alone.0 in
       subst (AreNotesOf s asked (found ++ Refuted question ∷ [])) (sym alone.1) (record {
         words = are.words;
-        outdated = ((λ is. new-refuted (AsksAlone s asked) found question asks), λ is. refl);
-        alone_left = same-left (AsksAlone s asked) n.alone_left are.alone_left;
+        outdated = ((λ is. new-closed Refuted one-refuted (AsksAlone s asked) found question asks), λ is. refl);
+        alone_left = left-stays found (Refuted question) (λ q is. cc) (AsksAlone s asked) n.alone_left are.alone_left;
         lower = lower-same found (Refuted question) n.lower
-            (λ j upto. old-refuted (AsksAt s asked j) found question (not-both j question asks)) are.lower;
+            (λ j upto. old-closed Refuted one-refuted (AsksAt s asked j) found question (not-both j question asks)) are.lower;
         left_count = are.left_count;
-        left = λ j upto. same-left (AsksAt s asked j) (get_or n.left j false) (are.left j upto);
+        left = λ j upto. left-stays found (Refuted question) (λ q is. cc) (AsksAt s asked j) (get_or n.left j false) (are.left j upto);
         upper = upper-same found (Refuted question) n.upper refl are.upper;
       })
-    where
-      same-left : (Asks : List Word → Type 0) (b : Bool) → (b ≡ true) ↔ IsLeft Asks found → (b ≡ true) ↔ IsLeft Asks (found ++ Refuted question ∷ [])
-      same-left Asks b = same-mark (IsLeft Asks found) (IsLeft Asks (found ++ Refuted question ∷ [])) b (more-left Asks found (Refuted question))
-          (still-left Asks found (Refuted question) (λ q is. cc))
   notes-refuted found question n m are (inr (other, inl (j, at, is))) =
       let asks = at-asks n.words are.words question j at in
       subst (AreNotesOf s asked (found ++ Refuted question ∷ [])) (sym is) (record {
         words = are.words;
-        outdated = same-mark (IsRefuted (AsksAlone s asked) found) (IsRefuted (AsksAlone s asked) (found ++ Refuted question ∷ [])) n.outdated
-            (more-refuted (AsksAlone s asked) found (Refuted question))
-            (old-refuted (AsksAlone s asked) found question (λ alone. other (asks-alone n.words are.words question alone))) are.outdated;
-        alone_left = same-left (AsksAlone s asked) n.alone_left are.alone_left;
+        outdated = old-mark Refuted one-refuted (AsksAlone s asked) found n.outdated question
+            (λ alone. other (asks-alone n.words are.words question alone)) are.outdated;
+        alone_left = left-stays found (Refuted question) (λ q is. cc) (AsksAlone s asked) n.alone_left are.alone_left;
         lower = lower-raised found question n.lower j asks.0 asks.1 are.lower;
         left_count = are.left_count;
-        left = λ i upto. same-left (AsksAt s asked i) (get_or n.left i false) (are.left i upto);
+        left = λ i upto. left-stays found (Refuted question) (λ q is. cc) (AsksAt s asked i) (get_or n.left i false) (are.left i upto);
         upper = upper-same found (Refuted question) n.upper refl are.upper;
       })
-    where
-      same-left : (Asks : List Word → Type 0) (b : Bool) → (b ≡ true) ↔ IsLeft Asks found → (b ≡ true) ↔ IsLeft Asks (found ++ Refuted question ∷ [])
-      same-left Asks b = same-mark (IsLeft Asks found) (IsLeft Asks (found ++ Refuted question ∷ [])) b (more-left Asks found (Refuted question))
-          (still-left Asks found (Refuted question) (λ q is. cc))
   notes-refuted found question n m are (inr (other, inr (none, is))) =
       subst (AreNotesOf s asked (found ++ Refuted question ∷ [])) (sym is) (record {
         words = are.words;
-        outdated = same-mark (IsRefuted (AsksAlone s asked) found) (IsRefuted (AsksAlone s asked) (found ++ Refuted question ∷ [])) n.outdated
-            (more-refuted (AsksAlone s asked) found (Refuted question))
-            (old-refuted (AsksAlone s asked) found question (λ alone. other (asks-alone n.words are.words question alone))) are.outdated;
-        alone_left = same-left (AsksAlone s asked) n.alone_left are.alone_left;
+        outdated = old-mark Refuted one-refuted (AsksAlone s asked) found n.outdated question
+            (λ alone. other (asks-alone n.words are.words question alone)) are.outdated;
+        alone_left = left-stays found (Refuted question) (λ q is. cc) (AsksAlone s asked) n.alone_left are.alone_left;
         lower = lower-same found (Refuted question) n.lower
-            (λ j upto. old-refuted (AsksAt s asked j) found question (λ at. none j (asks-at n.words are.words question j upto at))) are.lower;
+            (λ j upto. old-closed Refuted one-refuted (AsksAt s asked j) found question
+            (λ at. none j (asks-at n.words are.words question j upto at))) are.lower;
         left_count = are.left_count;
-        left = λ i upto. same-left (AsksAt s asked i) (get_or n.left i false) (are.left i upto);
+        left = λ i upto. left-stays found (Refuted question) (λ q is. cc) (AsksAt s asked i) (get_or n.left i false) (are.left i upto);
         upper = upper-same found (Refuted question) n.upper refl are.upper;
       })
-    where
-      same-left : (Asks : List Word → Type 0) (b : Bool) → (b ≡ true) ↔ IsLeft Asks found → (b ≡ true) ↔ IsLeft Asks (found ++ Refuted question ∷ [])
-      same-left Asks b = same-mark (IsLeft Asks found) (IsLeft Asks (found ++ Refuted question ∷ [])) b (more-left Asks found (Refuted question))
-          (still-left Asks found (Refuted question) (λ q is. cc))
-
-  -- what no question that is left undecided touches
-  module _ (found : List Finding) (question : List Word) where
-    more : List Finding
-    more = found ++ LeftUndecided question ∷ []
-
-    same-refuted : (Asks : List Word → Type 0) → IsRefuted Asks more → IsRefuted Asks found
-    unfolding more
-    same-refuted Asks = still-refuted Asks found (LeftUndecided question) (λ q is. cc)
-
-    outdated-left : (b : Bool) → (b ≡ true) ↔ IsRefuted (AsksAlone s asked) found → (b ≡ true) ↔ IsRefuted (AsksAlone s asked) more
-    unfolding more
-    outdated-left b = same-mark (IsRefuted (AsksAlone s asked) found) (IsRefuted (AsksAlone s asked) (found ++ LeftUndecided question ∷ [])) b
-        (more-refuted (AsksAlone s asked) found (LeftUndecided question)) (same-refuted (AsksAlone s asked))
-
-    lower-left : (l : ℕ) → IsLower s asked found l → IsLower s asked more l
-    unfolding more
-    lower-left l = lower-same found (LeftUndecided question) l (λ j upto. same-refuted (AsksAt s asked j))
-
-    other-left : (Asks : List Word → Type 0) → ¬ Asks question → (b : Bool) → (b ≡ true) ↔ IsLeft Asks found → (b ≡ true) ↔ IsLeft Asks more
-    unfolding more
-    other-left Asks none b = same-mark (IsLeft Asks found) (IsLeft Asks (found ++ LeftUndecided question ∷ [])) b
-        (more-left Asks found (LeftUndecided question)) (old-left Asks found question none)
-
-    upper-left : (u : Option (ℕ × List Bool)) → IsUpper s asked (installed s asked found) u → IsUpper s asked (installed s asked more) u
-    unfolding more
-    upper-left u = upper-same found (LeftUndecided question) u refl
 
   pub notes-left : (found : List Finding) (question : List Word) (n m : NotesView) → AreNotesOf s asked found n → NotesLeft n question m
       → AreNotesOf s asked (found ++ LeftUndecided question ∷ []) m
-  unfolding more
   notes-left found question n m are (inl alone) =
       let asks = alone-asks n.words are.words question alone.0 in
       subst (AreNotesOf s asked (found ++ LeftUndecided question ∷ [])) (sym alone.1) (record {
         words = are.words;
-        outdated = outdated-left found question n.outdated are.outdated;
-        alone_left = ((λ is. new-left (AsksAlone s asked) found question asks), λ is. refl);
-        lower = lower-left found question n.lower are.lower;
+        outdated = refuted-stays found (LeftUndecided question) (λ q is. cc) (AsksAlone s asked) n.outdated are.outdated;
+        alone_left = ((λ is. new-closed LeftUndecided one-left (AsksAlone s asked) found question asks), λ is. refl);
+        lower = lower-stays found (LeftUndecided question) (λ q is. cc) n.lower are.lower;
         left_count = are.left_count;
-        left = λ j upto. other-left found question (AsksAt s asked j) (not-both j question asks) (get_or n.left j false) (are.left j upto);
-        upper = upper-left found question n.upper are.upper;
+        left = λ j upto. old-mark LeftUndecided one-left (AsksAt s asked j) found (get_or n.left j false) question (not-both j question asks)
+            (are.left j upto);
+        upper = upper-same found (LeftUndecided question) n.upper refl are.upper;
       })
   notes-left found question n m are (inr (other, inl (j, at, is))) =
       let asks = at-asks n.words are.words question j at in
@@ -287,31 +247,34 @@ module _ (s : SpaceView) (asked : Asked) where
       let short : j < length n.left = omega (arith, asks.0, count) in
       subst (AreNotesOf s asked (found ++ LeftUndecided question ∷ [])) (sym is) (record {
         words = are.words;
-        outdated = outdated-left found question n.outdated are.outdated;
-        alone_left = other-left found question (AsksAlone s asked) (λ alone. other (asks-alone n.words are.words question alone)) n.alone_left are.alone_left;
-        lower = lower-left found question n.lower are.lower;
+        outdated = refuted-stays found (LeftUndecided question) (λ q is. cc) (AsksAlone s asked) n.outdated are.outdated;
+        alone_left = old-mark LeftUndecided one-left (AsksAlone s asked) found n.alone_left question
+            (λ alone. other (asks-alone n.words are.words question alone)) are.alone_left;
+        lower = lower-stays found (LeftUndecided question) (λ q is. cc) n.lower are.lower;
         left_count = length-set n.left j true ∙ are.left_count;
         left = λ i upto. elim (cases_eq i j) [
           | inl same ↦ (
-            (λ on. new-left (AsksAt s asked i) found question (subst (λ (k : ℕ). AsksAt s asked k question) (sym same) asks.1)),
+            (λ on. new-closed LeftUndecided one-left (AsksAt s asked i) found question
+                (subst (λ (k : ℕ). AsksAt s asked k question) (sym same) asks.1)),
             λ left. ap (λ (k : ℕ). get_or (set n.left j true) k false) same ∙ get_or-set_same n.left j true false short,
           )
-          | inr differ ↦ other-left found question (AsksAt s asked i) (λ other_one. differ (one-number i j question other_one asks.1))
-              (get_or (set n.left j true) i false)
+          | inr differ ↦ old-mark LeftUndecided one-left (AsksAt s asked i) found (get_or (set n.left j true) i false) question
+              (λ other_one. differ (one-number i j question other_one asks.1))
               (subst (λ (b : Bool). (b ≡ true) ↔ IsLeft (AsksAt s asked i) found) (sym (get_or-set_other n.left j i true false differ)) (are.left i upto))
         ];
-        upper = upper-left found question n.upper are.upper;
+        upper = upper-same found (LeftUndecided question) n.upper refl are.upper;
       })
   notes-left found question n m are (inr (other, inr (none, is))) =
       subst (AreNotesOf s asked (found ++ LeftUndecided question ∷ [])) (sym is) (record {
         words = are.words;
-        outdated = outdated-left found question n.outdated are.outdated;
-        alone_left = other-left found question (AsksAlone s asked) (λ alone. other (asks-alone n.words are.words question alone)) n.alone_left are.alone_left;
-        lower = lower-left found question n.lower are.lower;
+        outdated = refuted-stays found (LeftUndecided question) (λ q is. cc) (AsksAlone s asked) n.outdated are.outdated;
+        alone_left = old-mark LeftUndecided one-left (AsksAlone s asked) found n.alone_left question
+            (λ alone. other (asks-alone n.words are.words question alone)) are.alone_left;
+        lower = lower-stays found (LeftUndecided question) (λ q is. cc) n.lower are.lower;
         left_count = are.left_count;
-        left = λ j upto. other-left found question (AsksAt s asked j) (λ at. none j (asks-at n.words are.words question j upto at))
-            (get_or n.left j false) (are.left j upto);
-        upper = upper-left found question n.upper are.upper;
+        left = λ j upto. old-mark LeftUndecided one-left (AsksAt s asked j) found (get_or n.left j false) question
+            (λ at. none j (asks-at n.words are.words question j upto at)) (are.left j upto);
+        upper = upper-same found (LeftUndecided question) n.upper refl are.upper;
       })
 
   -- ---- an installation
@@ -322,18 +285,13 @@ module _ (s : SpaceView) (asked : Asked) where
       → AreNotesOf s asked (found ++ Installed members ∷ []) (record n { upper = u })
   with-installed found members n u are upper = record {
     words = are.words;
-    outdated = same-mark (IsRefuted (AsksAlone s asked) found) (IsRefuted (AsksAlone s asked) (found ++ Installed members ∷ [])) n.outdated
-        (more-refuted (AsksAlone s asked) found (Installed members)) (still-refuted (AsksAlone s asked) found (Installed members) (λ q is. cc)) are.outdated;
-    alone_left = same-left (AsksAlone s asked) n.alone_left are.alone_left;
-    lower = lower-same found (Installed members) n.lower (λ j upto. still-refuted (AsksAt s asked j) found (Installed members) (λ q is. cc)) are.lower;
+    outdated = refuted-stays found (Installed members) (λ q is. cc) (AsksAlone s asked) n.outdated are.outdated;
+    alone_left = left-stays found (Installed members) (λ q is. cc) (AsksAlone s asked) n.alone_left are.alone_left;
+    lower = lower-stays found (Installed members) (λ q is. cc) n.lower are.lower;
     left_count = are.left_count;
-    left = λ j upto. same-left (AsksAt s asked j) (get_or n.left j false) (are.left j upto);
+    left = λ j upto. left-stays found (Installed members) (λ q is. cc) (AsksAt s asked j) (get_or n.left j false) (are.left j upto);
     upper = upper;
   }
-    where
-      same-left : (Asks : List Word → Type 0) (b : Bool) → (b ≡ true) ↔ IsLeft Asks found → (b ≡ true) ↔ IsLeft Asks (found ++ Installed members ∷ [])
-      same-left Asks b = same-mark (IsLeft Asks found) (IsLeft Asks (found ++ Installed members ∷ [])) b (more-left Asks found (Installed members))
-          (still-left Asks found (Installed members) (λ q is. cc))
 
   -- an installation with fewer clusters than all before it is the first with the fewest
   new-least : (all : List (List ℕ)) (members : List ℕ) (u : Option (ℕ × List Bool)) → IsUpper s asked all u → is_fewer u (moved_in s members) ≡ true
