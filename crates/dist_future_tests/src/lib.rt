@@ -10,6 +10,8 @@ mod future_clauses;
 #[cfg(test)]
 mod future_health;
 #[cfg(test)]
+mod repairs;
+#[cfg(test)]
 mod spaces;
 #[cfg(test)]
 mod variables;

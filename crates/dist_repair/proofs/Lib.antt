@@ -1,5 +1,17 @@
 pub mod BelowLemmas
 pub mod CountLemmas
 pub mod GatherLemmas
+pub mod OverLemmas
 pub mod ModelLemmas
 pub mod StopLemmas
+pub mod RangeLemmas
+pub mod MovedLemmas
+pub mod WordLemmas
+pub mod NoteLemmas
+pub mod AnswerLemmas
+pub mod InputsLemmas
+pub mod HardLemmas
+pub mod SoundLemmas
+pub mod AcceptedLemmas
+pub mod VerdictLemmas
+pub mod OneAnswerLemmas

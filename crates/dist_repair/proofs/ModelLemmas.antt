@@ -1,5 +1,6 @@
 -- Models of the clauses of a space with those of its counter.
-use Rattle.std.proofs.Common.{◌≡◌, ℕ, suc, ◌+◌, ◌-◌, ◌*◌, ◌<◌, ◌≤◌, Bool, true, false, List, [], ◌∷◌, ◌++◌, Some, length, length-append, get_or, refl, sym, ap}
+use Rattle.std.proofs.Common.{◌≡◌, ℕ, suc, ◌+◌, ◌-◌, ◌*◌, ◌<◌, ◌≤◌, Bool, true, false, List, [], ◌∷◌, ◌++◌, Some, length, length-append, get_or, refl, sym}
+use Rattle.std.proofs.Common.{ap}
 use Rattle.std.proofs.Common.{subst, ◌∙◌, arith, inl, inr, le_antisymm, mul-one, slice_get}
 use Rattle.std.specs.Prelude.{All}
 use Rattle.std.proofs.lemmas.Bool.{cases_lt, false≢true}
@@ -7,7 +8,7 @@ use Rattle.std.proofs.lemmas.List.{get_or-append-add, get_or_append_left}
 use Rattle.std.proofs.lemmas.List.Elements.{All-append, All-contains, All-cons, All-head, All-nil}
 use Rattle.std.proofs.lemmas.Option.{slice_get_within}
 use Rattle.dist_base.specs.ListLaws.{all-contained}
-use Rattle.dist_clause.specs.Formula.{Literal, IsClauseOver, IsModel, MakesTrue, value_of}
+use Rattle.dist_clause.specs.Formula.{Literal, IsModel, MakesTrue, value_of}
 use Rattle.dist_repo.specs.DecidedLaws.{IsDecided}
 use Rattle.dist_repo.specs.declared.package.Package.{Package}
 use Rattle.dist_future.specs.Moved.{IsAtClass, TellOfMoves}
@@ -17,12 +18,14 @@ use Rattle.dist_space.specs.ClusterLaws.{has-cluster}
 use Rattle.dist_space.specs.Space.{IsSpace, SpaceView, cluster_classes, variable_of}
 use Rattle.dist_space.specs.VariableLaws.{variable-range}
 use Rattle.dist_space.specs.declared.meaning.Meaning.TheVariants.{Present, At}
-use Rattle.dist_repair.specs.Counters.{AreAtClass, Counter, CountedModelsTell, HasCountedModel, ModelsTellMoves, class_clauses, count_clauses, counted_clauses}
+use Rattle.dist_repair.specs.Counters.{AreAtClass, Counter, CountedModelsTell, HasCountedModel, ModelsTellMoves, class_clauses, count_clauses}
+use Rattle.dist_repair.specs.Counters.{counted_clauses}
 use Rattle.dist_repair.specs.Counters.{counted_variables, counter_clauses, counter_of, each_below, more, moved, no, yes}
-use Rattle.dist_repair.specs.Repair.{IsPossibleWithin}
+use Rattle.dist_repair.specs.Repair.{IsInstallableByMoving, IsPossibleWithin}
 use Rattle.dist_repair.proofs.BelowLemmas.{all-below, all-left, all-right, at-below, below-all, length-below}
 use Rattle.dist_repair.proofs.CountLemmas.{count, counted, counting-model, implies, two-cases, true-not}
 use Rattle.dist_repair.proofs.GatherLemmas.{answer, answer-false, answer-from, answer-true, below-decided, count-numbers, count-wider}
+use Rattle.dist_repair.proofs.OverLemmas.{IsOver}
 use Rattle.dist_repair.proofs.GatherLemmas.{gathered, less-decided, there-decided, true-decided}
 
 -- ---- clusters that are at a class
@@ -195,15 +198,15 @@ module _ (s : SpaceView) (space : IsSpace s) (clauses : List (List Literal)) (mo
 
   -- the clauses of the space are over its own variables
   clause-true : (values : List Bool) (test : ℕ → Bool) → length values ≡ length s.meanings → (clause : List Literal)
-      → IsClauseOver (length s.meanings) clause → MakesTrue (value_of values) clause → MakesTrue (value_of (all_values values test)) clause
+      → IsOver (length s.meanings) clause → MakesTrue (value_of values) clause → MakesTrue (value_of (all_values values test)) clause
   clause-true values test size clause over any =
-      let range = over.in_range any.0 any.1 any.2 in
+      let range = over any.0 any.1 any.2 in
       let l : Literal = any.1 in
       let here : get_or clause any.0 l ≡ l = any.3 in
       let from = subst (λ (x : Literal). (1 ≤ x.variable) × (x.variable ≤ length s.meanings)) here range in
       (any.0, l, any.2, any.3, front-value values test size l.variable from.0 from.1 ∙ any.4)
 
-  module _ (values : List Bool) (size : length values ≡ length s.meanings) (over : All (IsClauseOver (length s.meanings)) clauses)
+  module _ (values : List Bool) (size : length values ≡ length s.meanings) (over : All (IsOver (length s.meanings)) clauses)
       (model : IsModel (value_of values) clauses) where
     test : ℕ → Bool
     test = at_test s values
@@ -214,7 +217,7 @@ module _ (s : SpaceView) (space : IsSpace s) (clauses : List (List Literal)) (mo
     front-true : IsModel (value_of whole) clauses
     unfolding whole
     front-true = all-contained (MakesTrue (value_of (all_values values test))) clauses (λ clause there.
-        clause-true values test size clause (All-contains (IsClauseOver (length s.meanings)) clauses clause over there)
+        clause-true values test size clause (All-contains (IsOver (length s.meanings)) clauses clause over there)
         (All-contains (MakesTrue (value_of values)) clauses clause model there))
 
     classes-true : (c : ℕ) → c < n → IsModel (value_of whole) (class_clauses s t c)
@@ -271,7 +274,7 @@ module _ (s : SpaceView) (space : IsSpace s) (clauses : List (List Literal)) (mo
               ∙ answer-false (less-decided within (count test (suc last))) (λ less. omega (arith, less, at));
         }
 
-  to-model : (number : ℕ) (p : Package) (within : ℕ) → All (IsClauseOver (length s.meanings)) clauses → slice_get s.repository.packages number ≡ Some p
+  to-model : (number : ℕ) (p : Package) (within : ℕ) → All (IsOver (length s.meanings)) clauses → slice_get s.repository.packages number ≡ Some p
       → within ≤ most → IsPossibleWithin s p within → HasCountedModel s clauses most number within
   unfolding at_test test
   to-model number p within over is few (numbers, by, low) =
@@ -285,5 +288,25 @@ module _ (s : SpaceView) (space : IsSpace s) (clauses : List (List Literal)) (mo
       counted-model made.values made.one_each over made.model number p within (n - 1) is few (made.present number p is installed.holds)
       (omega (arith, some)) (omega (arith, wider, size, low))
 
-  pub counted-tell : All (IsClauseOver (length s.meanings)) clauses → CountedModelsTell s clauses most
+  -- a package that can be installed by moving some clusters has a model, however many these are
+  pub record HasAnyModel (number : ℕ) : Type 0 where
+    pub values : List Bool
+    pub model : IsModel (value_of values) (counted_clauses s clauses most)
+    pub holds : holds_under s values (Present number) ≡ true
+
+  pub any-model : (number : ℕ) (p : Package) (numbers : List ℕ) → All (IsOver (length s.meanings)) clauses
+      → slice_get s.repository.packages number ≡ Some p → IsInstallableByMoving s p numbers → HasAnyModel number
+  unfolding whole test
+  any-model number p numbers over is by =
+      let installed : IsInstallableIn s.essential s.repository by.future p = by.installable in
+      let made = tell.there by.future installed.members by.is_future installed.healthy in
+      let range = variable-range s (Present number) space (slice_get_within s.repository.packages number p is) in
+      record {
+        values = all_values made.values (at_test s made.values);
+        model = whole-model made.values made.one_each over made.model;
+        holds = front-value made.values (at_test s made.values) made.one_each (variable_of s (Present number)) range.0 range.1
+            ∙ made.present number p is installed.holds;
+      }
+
+  pub counted-tell : All (IsOver (length s.meanings)) clauses → CountedModelsTell s clauses most
   counted-tell over number p within is few = (from-model number p within is few, to-model number p within over is few)

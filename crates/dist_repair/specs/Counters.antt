@@ -2,7 +2,8 @@
 -- it has moved, and for each cluster and each number up to the most one that more than so many of the clusters up to
 -- this one have moved. (A counter as in Sinz, "Towards an optimal CNF encoding of Boolean cardinality constraints",
 -- 2005.) Clusters are numbered from 0.
-use Rattle.std.specs.Prelude.{◌≡◌, ◌↔◌, ℕ, zero, suc, ◌+◌, ◌*◌, ◌<◌, ◌≤◌, Bool, true, false, List, [], ◌∷◌, ◌++◌, Some}
+use Rattle.std.specs.Prelude.{◌≡◌, ◌↔◌, ℕ, zero, suc, ◌+◌, ◌*◌, ◌<◌, ◌≤◌, Bool, true, false, List, [], ◌∷◌, ◌++◌}
+use Rattle.std.specs.Prelude.{Some}
 use Rattle.std.specs.Prelude.{Contains, length, slice_get, take}
 use Rattle.std.specs.List.Sorted.{IsStrictlyIncreasing}
 use Rattle.dist_clause.specs.ClauseList.{ClauseList, literal_count}

@@ -1,3 +1,10 @@
 pub mod Repair
 pub mod Counters
+pub mod Answered
+pub mod RepairFiles
+pub mod Means
+pub mod Verdicts
+pub mod RepairExamples
 pub mod CountedPrivate
+pub mod InputsPrivate
+pub mod NotesPrivate

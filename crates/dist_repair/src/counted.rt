@@ -2,6 +2,7 @@
 ghost use Rattle.std.specs.Prelude.{◌≡◌, ◌+◌, ◌<◌, ◌≤◌, ◌∷◌, [], IfErr, IfOk, OnOk, length};
 ghost use Rattle.dist_base.specs.Answers.{IsExactly};
 ghost use Rattle.dist_base.specs.declared.TheConstants.{MAX_CLAUSES, MAX_LITERALS, MAX_VARIABLES};
+ghost use Rattle.dist_judge.specs.Causes.{IsLarge};
 ghost use Rattle.dist_outside.specs.declared.trouble.What.{What};
 ghost use Rattle.dist_outside.specs.declared.trouble.WorkError.TheVariants.{NoMemory, TooLarge};
 ghost use Rattle.dist_space.specs.Space.{cluster_classes, variable_of};
@@ -263,12 +264,9 @@ pub fn with_counter(
     requires literals { limits.now.literals ≤ MAX_LITERALS }
     ensures ok { IfOk result (IsCountedSet limits.now space.now most clauses.now) }
     ensures exact { (what : What) → IsExactly NoMemory result (TooLarge what) (PassesCounted limits.now space.now most clauses.now.clauses what) }
+    ensures cause { IfErr result (IsLarge (PassesCounted limits.now space.now most clauses.now.clauses)) }
 {
-    let counter = Counter {
-        last: space.variables(),
-        clusters: space.clusters().len(),
-        most,
-    };
+    let counter = Counter::of(space, most);
     let variables = counter.variables();
     if variables > u64::from(limits.variables) {
         return Err(WorkError::TooLarge(What::Variables));

@@ -1,8 +1,9 @@
 //! The variables of a counter, and how many there are.
 ghost use Rattle.std.specs.Prelude.{◌≡◌, ◌+◌, ◌*◌, ◌<◌, ◌≤◌};
 ghost use Rattle.dist_base.specs.declared.TheConstants.{MAX_VARIABLES};
-ghost use Rattle.dist_repair.specs.Counters.{counted_variables, moved, more};
+ghost use Rattle.dist_repair.specs.Counters.{counted_variables, counter_of, moved, more};
 
+use dist_space::Space;
 use std::marker::Model;
 
 /// A counter of clusters that move, up to a most. Its variables stand behind a last one.
@@ -22,6 +23,17 @@ impl Model for Counter {
 }
 
 impl Counter {
+    /// The counter of a space's clusters.
+    pub(crate) fn of(space: &Space, most: u32) -> Counter
+        ensures { result ≡ counter_of space.now most }
+    {
+        Counter {
+            last: space.variables(),
+            clusters: space.clusters().len(),
+            most,
+        }
+    }
+
     /// How many variables there are with those of the counter.
     pub(crate) fn variables(&self) -> u64
         requires { self.now.most ≤ 64 }

@@ -1,18 +1,53 @@
-//! What the clauses that count mean. The function does nothing.
-ghost use Rattle.std.specs.Prelude.{ℕ, All, List, length};
-ghost use Rattle.dist_clause.specs.Formula.{IsClauseOver, Literal};
+//! What the clauses that count mean, and what files prove. The functions do nothing.
+ghost use Rattle.std.specs.Prelude.{◌≡◌, ℕ, List, Result};
+ghost use Rattle.dist_outside.specs.declared.limits.Limits.{Limits};
+ghost use Rattle.dist_outside.specs.declared.trouble.WorkError.{WorkError};
+ghost use Rattle.dist_clause.specs.Formula.{Literal};
 ghost use Rattle.dist_space.specs.Space.{IsSpace, SpaceView};
 ghost use Rattle.dist_space_clauses.specs.SpaceClauses.{AreSpaceClauses};
+ghost use Rattle.dist_findings.specs.Answers.{IsAnswered};
+ghost use Rattle.dist_repair.specs.Answered.{Answers};
 ghost use Rattle.dist_repair.specs.Counters.{CountedModelsTell, ModelsTellMoves};
+ghost use Rattle.dist_repair.specs.RepairFiles.{asked_by, repair_files};
+ghost use Rattle.dist_repair.specs.Verdicts.{AcceptedSays, IsHeaderOf, IsOfText, RepairAnswers};
+ghost use Rattle.dist_repair.specs.declared.repair.Repair.{Repair};
+ghost use Rattle.dist_repair.specs.declared.verdict.RepairHeader.{RepairHeader};
+ghost use Rattle.dist_repair.specs.declared.verdict.RepairVerdict.{RepairVerdict};
 
+use dist_cert::forms_are_clear;
+use dist_derive::{lines_keep_models, new_lines_are_few};
 use dist_future::{each_model_is_a_future, models_tell_of_moves};
+use dist_space_clauses::space_clauses_are_one;
 
 /// What models tell of how many clusters must move for a package.
 pub fn counters_count_moves()
     ensures counted { (s : SpaceView) (clauses : List (List Literal)) (most : ℕ) → IsSpace s → AreSpaceClauses s clauses
-        → All (IsClauseOver (length s.meanings)) clauses → CountedModelsTell s clauses most }
+        → CountedModelsTell s clauses most }
     ensures moves { (s : SpaceView) (clauses : List (List Literal)) → IsSpace s → AreSpaceClauses s clauses → ModelsTellMoves s clauses }
 {
     models_tell_of_moves();
     each_model_is_a_future();
+}
+
+/// What an accepted file answers is true, whoever wrote it.
+pub fn accepted_repairs_hold()
+    ensures { (s : SpaceView) (limits : Limits) (text numbers : List ℕ) (h : RepairHeader) (repair : Repair) → IsSpace s
+        → IsHeaderOf numbers h → IsAnswered (repair_files s) limits text numbers (λ found. Answers s (asked_by numbers) found repair)
+        → AcceptedSays s h repair }
+{
+    forms_are_clear();
+    lines_keep_models();
+    new_lines_are_few();
+    models_tell_of_moves();
+    counters_count_moves();
+}
+
+/// A text has one answer, but for a fault of reading and want of memory: that a number is passed, a verdict and what is answered,
+/// for two, exclude each other.
+pub fn repairs_have_one_answer()
+    ensures { (s : SpaceView) (limits : Limits) (text : List ℕ) (result other : Result RepairVerdict WorkError)
+        → RepairAnswers s limits text result → RepairAnswers s limits text other → IsOfText result → IsOfText other → other ≡ result }
+{
+    forms_are_clear();
+    space_clauses_are_one();
 }

@@ -4,12 +4,23 @@
 //! some number of clusters that move.
 #![tactic(auto)]
 
+mod checking;
 mod counted;
 mod counter;
+mod inputs;
 mod laws;
+mod moved;
+mod notes;
+mod repair;
+mod repairing;
+mod verdict;
+mod words;
 
+pub use checking::check_repair;
 pub use counted::with_counter;
-pub use laws::counters_count_moves;
+pub use laws::{accepted_repairs_hold, counters_count_moves, repairs_have_one_answer};
+pub use repair::Repair;
+pub use verdict::{RepairHeader, RepairVerdict};
 
 /// The most clusters that a counter counts to.
 pub const MAX_MOST: u32 = 64;
