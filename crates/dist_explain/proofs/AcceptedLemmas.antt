@@ -1,21 +1,17 @@
 -- What an accepted file proves of its package.
-use Rattle.std.proofs.Common.{◌≡◌, ◌≢◌, ◌⊎◌, ◌↔◌, inl, inr, ℕ, ◌+◌, ◌-◌, ◌<◌, ◌≤◌, ◌^◌, false, List, [], ◌∷◌, ◌++◌, length, Some, refl, sym, ap, subst, ◌∙◌, arith}
-use Rattle.std.proofs.Common.{slice_get}
+use Rattle.std.proofs.Common.{◌≡◌, ◌≢◌, ◌⊎◌, ◌↔◌, inl, inr, ℕ, ◌+◌, ◌-◌, ◌<◌, ◌≤◌, ◌^◌, false, List, [], ◌∷◌, ◌++◌, length, refl, sym, subst, arith}
 use Rattle.std.specs.Prelude.{All, Any, Contains}
 use Rattle.std.proofs.lemmas.Option.{get_or_from_slice_get, slice_get_within}
-use Rattle.std.proofs.lemmas.List.Elements.{All-cons, All-contains, All-head, All-push, All-tail, All-weaker, Contains-append_cases, Contains-append_left, Contains-append_right}
-use Rattle.dist_base.specs.ListLaws.{all-contained, any-contained, any-there, at-has, element-at}
-use Rattle.dist_base.specs.declared.TheConstants.{MAX_LIMIT}
-use Rattle.dist_outside.specs.declared.limits.Limits.{Limits}
+use Rattle.std.proofs.lemmas.List.Elements.{All-cons, All-contains, All-head, All-push, All-tail, All-weaker, Contains-append_cases, Contains-append_left}
+use Rattle.std.proofs.lemmas.List.Elements.{Contains-append_right}
+use Rattle.dist_base.specs.ListLaws.{all-contained, any-contained, any-there, element-at}
 use Rattle.dist_clause.specs.Formula.{Literal, literal}
 use Rattle.dist_cert.specs.ClaimRules.{yes}
 use Rattle.dist_cert.specs.Form.{Word}
 use Rattle.dist_cert.specs.ListLaws.{contains-later}
-use Rattle.dist_repo.specs.PackageList.{PackageList, IsPackageAnd}
+use Rattle.dist_repo.specs.PackageList.{PackageList}
 use Rattle.dist_repo.specs.declared.package.Package.{Package}
 use Rattle.dist_now.specs.PresentClauses.{Demand}
-use Rattle.dist_now.specs.Relations.{AreRelations}
-use Rattle.dist_check_state.specs.ToldLaws.{most-told, stable}
 use Rattle.dist_explain.specs.Answered.{Answers, AreDecided, AreLast, IsOfRelation, LeavesAllOpen, LeavesOpen, Selects, ShowsAll, ShowsNeeded}
 use Rattle.dist_explain.specs.Explanation.{Explain, FailsNumber, IsNeeded}
 use Rattle.dist_explain.specs.Selectors.{selected, selected_clauses}

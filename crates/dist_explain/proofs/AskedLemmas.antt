@@ -1,9 +1,10 @@
 -- Which relations a question selects.
-use Rattle.std.proofs.Common.{◌≡◌, ◌⊎◌, ◌↔◌, inl, inr, ℕ, ◌+◌, ◌-◌, ◌<◌, ◌≤◌, ◌==◌, ◌||◌, Bool, true, false, List, [], ◌∷◌, Option, Some, None, cond}
+use Rattle.std.proofs.Common.{◌≡◌, ◌⊎◌, ◌↔◌, inl, inr, ℕ, ◌+◌, ◌-◌, Bool, true, false, List, [], ◌∷◌, Option, Some, None, cond}
 use Rattle.std.proofs.Common.{refl, sym, ap, subst, ◌∙◌, arith}
-use Rattle.std.specs.List.{All, Any, Contains, cons_option, filter_map, list_all, list_any}
+use Rattle.std.specs.List.{Any, Contains, cons_option, filter_map, list_all, list_any}
 use Rattle.std.specs.Prelude.{is_some, nat_le, nat_lt}
-use Rattle.std.proofs.lemmas.Bool.{and_from, and_parts, eq-eqb, eqb-true, false≢true, le-leb, leb-true, lt-ltb, ltb-true, or_cases, or_left, or_right, true≢false}
+use Rattle.std.proofs.lemmas.Bool.{and_from, and_parts, eq-eqb, eqb-true, false≢true, le-leb, leb-true, lt-ltb, ltb-true, or_cases, or_left, or_right}
+use Rattle.std.proofs.lemmas.Bool.{true≢false}
 use Rattle.std.proofs.lemmas.List.Elements.{All-contains}
 use Rattle.dist_base.specs.ListLaws.{all-contained, any-contained, any-there}
 use Rattle.dist_cert.specs.ClaimRules.{yes}
@@ -154,16 +155,19 @@ selects-on asked question numbers word selects there = elim ((selects.exact word
         let same : asked.packages + number - asked.packages ≡ number = omega arith in
         let above = lt-ltb asked.packages (asked.packages + number) (omega (arith, range.0)) in
         let upto = le-leb (asked.packages + number - asked.packages) asked.relations (omega (arith, same, range.1)) in
-        let selects = and_from (nat_lt asked.packages (asked.packages + number)) (nat_le (asked.packages + number - asked.packages) asked.relations) above upto in
+        let selects = and_from (nat_lt asked.packages (asked.packages + number)) (nat_le (asked.packages + number - asked.packages) asked.relations)
+        above upto in
         or_right (is_package asked word) (is_some (relation_of asked word))
         (ap (λ (b : Bool). is_some (cond b (Some (asked.packages + number - asked.packages)) None)) selects)
 
 pub selected-none-alone : (asked : Asked) (question : List Word) → list_all (is_on asked) question ≡ false → SelectsNone asked question
-selected-none-alone asked question not numbers selects = true≢false (sym (all-from (is_on asked) question (λ word there. selects-on asked question numbers word selects there)) ∙ not)
+selected-none-alone asked question not numbers selects =
+    true≢false (sym (all-from (is_on asked) question (λ word there. selects-on asked question numbers word selects there)) ∙ not)
   where
     all-from : (p : Word → Bool) (xs : List Word) → ((word : Word) → Contains xs word → p word ≡ true) → list_all p xs ≡ true
     all-from p [] each = refl
-    all-from p (x ∷ xs) each = and_from (p x) (list_all p xs) (each x (0, omega arith, refl)) (all-from p xs (λ word there. each word (contains-later x xs word there)))
+    all-from p (x ∷ xs) each = and_from (p x) (list_all p xs) (each x (0, omega arith, refl))
+        (all-from p xs (λ word there. each word (contains-later x xs word there)))
 
 pub selected-none-package : (asked : Asked) (question : List Word) → list_any (is_package asked) question ≡ false → SelectsNone asked question
 selected-none-package asked question none numbers selects =

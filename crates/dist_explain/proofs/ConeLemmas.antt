@@ -1,13 +1,11 @@
 -- A question is left undecided only within a bound, by the number of all variables.
-use Rattle.std.proofs.Common.{◌≡◌, ◌⊎◌, ◌↔◌, inl, inr, ℕ, zero, suc, ◌+◌, ◌<◌, ◌≤◌, ◌^◌, Bool, true, false, ◌&&◌, List, [], ◌∷◌, ◌++◌, length, map, refl, sym, ap}
-use Rattle.std.proofs.Common.{subst, ◌∙◌, arith}
+use Rattle.std.proofs.Common.{◌≡◌, ◌↔◌, inl, inr, ℕ, zero, suc, ◌≤◌, ◌^◌, Bool, true, ◌&&◌, List, [], ◌∷◌, length, subst, arith}
 use Rattle.std.specs.Prelude.{All, Contains, nat_le}
 use Rattle.std.proofs.Math.Nat.{pow-le-pow_right}
 use Rattle.std.proofs.lemmas.Bool.{and_from, and_parts, cases_lt, le-leb, leb-true}
 use Rattle.std.proofs.lemmas.List.Elements.{All-map, All-weaker}
-use Rattle.dist_base.specs.ListLaws.{all-contained}
 use Rattle.dist_clause.specs.Formula.{Literal}
-use Rattle.dist_derive.specs.Cone.{InCone, IsClosedUnder}
+use Rattle.dist_derive.specs.Cone.{InCone}
 use Rattle.dist_cert.specs.Form.{Word}
 use Rattle.dist_cert.specs.Groups.{clause_of}
 use Rattle.dist_cert.specs.ListLaws.{contains-cases, contains-later}

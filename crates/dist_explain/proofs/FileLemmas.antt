@@ -1,5 +1,5 @@
 -- The files of explanations: what an accepted one proves, and what is answered of it.
-use Rattle.std.proofs.Common.{◌≡◌, ◌≢◌, ◌⊎◌, inl, inr, ℕ, ◌+◌, ◌-◌, ◌<◌, ◌≤◌, ◌^◌, ◌==◌, Bool, true, false, not, List, [], ◌∷◌, ◌++◌, length, refl, sym, ap, subst, ◌∙◌, arith}
+use Rattle.std.proofs.Common.{◌≡◌, ◌≢◌, ℕ, ◌+◌, ◌-◌, ◌<◌, ◌==◌, true, false, not, List, [], ◌∷◌, length, refl, sym, ap, subst, ◌∙◌, arith}
 use Rattle.std.proofs.Common.{slice_get, Option, None, Some, codes, ◌↔◌}
 use Rattle.std.specs.Prelude.{All}
 use Rattle.std.specs.List.{list_all}
@@ -36,7 +36,7 @@ use Rattle.dist_explain.proofs.AcceptedLemmas.{answer-decided, answer-true}
 use Rattle.dist_explain.proofs.MeaningLemmas.{IsAsked, Known}
 use Rattle.dist_explain.proofs.SelectedLemmas.{length-selected}
 use Rattle.dist_explain.proofs.WholeLemmas.{whole-decided, whole-fits, whole-sound}
-use Rattle.dist_findings.specs.AnswerFiles.{AnswerFile, Inputs, files_of, limit_of}
+use Rattle.dist_findings.specs.AnswerFiles.{Inputs, files_of, limit_of}
 use Rattle.dist_findings.specs.Answers.{IsAnswered}
 use Rattle.dist_findings.specs.FilesClearLaws.{clear_files}
 use Rattle.dist_findings.specs.Findings.{findings}

@@ -1,10 +1,10 @@
 -- Rising lists of numbers: what they have, and one number more.
-use Rattle.std.proofs.Common.{◌≡◌, ◌≢◌, ◌⊎◌, ◌↔◌, inl, inr, ℕ, zero, suc, ◌+◌, ◌-◌, ◌<◌, ◌≤◌, Bool, true, false, List, [], ◌∷◌, ◌++◌, length, get_or, take}
-use Rattle.std.proofs.Common.{Result, Ok, Err, Option, Some, None, refl, sym, ap, subst, ◌∙◌, arith, nat_cmp, IsTrue}
-use Rattle.std.specs.List.{All, AllPairs, Contains, insert}
+use Rattle.std.proofs.Common.{◌≡◌, ◌≢◌, ◌↔◌, inl, inr, ℕ, ◌+◌, ◌-◌, ◌<◌, ◌≤◌, Bool, true, false, List, [], ◌∷◌, ◌++◌, length, get_or, take}
+use Rattle.std.proofs.Common.{Ok, Err, Option, Some, None, refl, sym, ap, subst, ◌∙◌, arith, nat_cmp, IsTrue}
+use Rattle.std.specs.List.{All, Contains, insert}
 use Rattle.std.specs.List.Sorted.{IsBinarySearchResult, IsStrictlyIncreasing}
 use Rattle.std.specs.Prelude.{MatchOption, is_some}
-use Rattle.std.proofs.lemmas.Bool.{cases_lt, cases_order, true≢false, false≢true}
+use Rattle.std.proofs.lemmas.Bool.{cases_order, true≢false, false≢true}
 use Rattle.std.proofs.lemmas.List.{get_or-take, get_or_default, length-take-le, take_all, take_more}
 use Rattle.std.proofs.lemmas.List.Edits.{length-insert, get_or-insert_below, get_or-insert_at, get_or-insert_above}
 use Rattle.std.proofs.lemmas.List.Elements.{All-contains, All-push, Contains-append_left, Contains-get_or, Contains-push}
@@ -13,7 +13,7 @@ use Rattle.dist_base.specs.RowLaws.{same-numbers}
 use Rattle.dist_cert.specs.ListLaws.{any-from, contains-cases, contains-later, from-any}
 use Rattle.dist_cert.specs.Rising.{AreRising, is_among}
 use Rattle.dist_explain.specs.Answered.{IsOnlyMissing}
-use Rattle.dist_explain.specs.ListedPrivate.{HasAllBehind, HasOneMore, IsNoneMissing}
+use Rattle.dist_explain.specs.ListedPrivate.{HasOneMore, IsNoneMissing}
 
 -- ---- tests
 
@@ -63,13 +63,16 @@ module _ (xs : List ℕ) (i y : ℕ) (rising : AreRising xs) (upto : i ≤ lengt
 
   pairs : (a b : ℕ) → a < b → b < length xs + 1 → at a < at b
   pairs a b less within = elim (cases_order b i) [
-    | inl same ↦ let s = at-place b same in let f = at-below a (omega (arith, less, same)) in let h = below a (omega (arith, less, same)) in omega (arith, s, f, h)
+    | inl same ↦ let s = at-place b same in let f = at-below a (omega (arith, less, same)) in
+        let h = below a (omega (arith, less, same)) in omega (arith, s, f, h)
     | inr (inl before) ↦ let s = at-below b before in let f = at-below a (omega (arith, less, before)) in
         let h = rising a b 0 less (omega (arith, before, upto)) in omega (arith, s, f, h)
     | inr (inr after) ↦ let s = at-above b after in elim (cases_order a i) [
       | inl same ↦ let f = at-place a same in let h = above (b - 1) (omega (arith, after)) (omega (arith, after, within)) in omega (arith, s, f, h)
-      | inr (inl early) ↦ let f = at-below a early in let h = rising a (b - 1) 0 (omega (arith, early, after)) (omega (arith, after, within)) in omega (arith, s, f, h)
-      | inr (inr late) ↦ let f = at-above a late in let h = rising (a - 1) (b - 1) 0 (omega (arith, less, late)) (omega (arith, after, within)) in omega (arith, s, f, h)
+      | inr (inl early) ↦ let f = at-below a early in
+          let h = rising a (b - 1) 0 (omega (arith, early, after)) (omega (arith, after, within)) in omega (arith, s, f, h)
+      | inr (inr late) ↦ let f = at-above a late in
+          let h = rising (a - 1) (b - 1) 0 (omega (arith, less, late)) (omega (arith, after, within)) in omega (arith, s, f, h)
     ]
   ]
 
@@ -158,7 +161,8 @@ missing-none numbers offset list all one only =
 pub next-there : (numbers : List ℕ) (offset : ℕ) (list : List ℕ) (k : ℕ) (found : Option ℕ) → k < length numbers
     → IsMissingOf (take k numbers) offset list found → Contains list (offset + get_or numbers k 0) → IsMissingOf (take (k + 1) numbers) offset list found
 next-there numbers offset list k found short before there =
-    subst (λ xs. IsMissingOf xs offset list found) (sym (take_more numbers k 0 short)) (missing-there (take k numbers) offset list found (get_or numbers k 0) before there)
+    subst (λ xs. IsMissingOf xs offset list found) (sym (take_more numbers k 0 short))
+    (missing-there (take k numbers) offset list found (get_or numbers k 0) before there)
 
 pub next-first : (numbers : List ℕ) (offset : ℕ) (list : List ℕ) (k : ℕ) (found : Option ℕ) → k < length numbers → is_some found ≡ false
     → IsMissingOf (take k numbers) offset list found → ¬ Contains list (offset + get_or numbers k 0)

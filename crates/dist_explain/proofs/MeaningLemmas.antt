@@ -1,35 +1,33 @@
 -- What the findings of an explanation's file prove of the package.
-use Rattle.std.proofs.Common.{◌≡◌, ◌≢◌, ◌⊎◌, ◌↔◌, inl, inr, ℕ, zero, suc, ◌+◌, ◌-◌, ◌<◌, ◌≤◌, Bool, true, false, List, [], ◌∷◌, ◌++◌, length, get_or, map}
-use Rattle.std.proofs.Common.{Option, Some, None, refl, sym, ap, subst, ◌∙◌, arith, slice_get}
-use Rattle.std.specs.Prelude.{All, Any, Contains, IsSomeAnd}
+use Rattle.std.proofs.Common.{◌≡◌, ◌≢◌, ◌⊎◌, inl, inr, ℕ, ◌+◌, ◌-◌, ◌≤◌, Bool, true, false, List, [], ◌∷◌, length, get_or, map}
+use Rattle.std.proofs.Common.{Some, sym, ap, subst, ◌∙◌, arith, slice_get}
+use Rattle.std.specs.Prelude.{All, Contains, IsSomeAnd}
 use Rattle.std.proofs.lemmas.Bool.{cases_order, false≢true}
-use Rattle.std.proofs.lemmas.List.Elements.{All-cons, All-contains, All-map, All-nil, Contains-append_cases, Contains-append_left, Contains-append_right}
+use Rattle.std.proofs.lemmas.List.Elements.{All-cons, All-contains, All-map, All-nil}
 use Rattle.std.proofs.lemmas.Option.{slice_get-get_or, slice_get_within}
-use Rattle.dist_base.specs.ListLaws.{HereAt, all-contained, any-contained, any-there, contains-at, here-at, within-from}
+use Rattle.dist_base.specs.ListLaws.{all-contained, any-there, contains-at, here-at, within-from}
 use Rattle.dist_clause.specs.Formula.{Literal, IsModel, IsTrueLiteral, MakesTrue, literal, value_of}
-use Rattle.dist_relation.specs.declared.atom.Atom.{Atom}
 use Rattle.dist_repo.specs.Conflict.{AreInConflict}
 use Rattle.dist_repo.specs.PackageList.{PackageList, IsPackageAnd}
 use Rattle.dist_repo.specs.Strong.{IsInstallable}
 use Rattle.dist_repo.specs.declared.package.Package.{Package}
 use Rattle.dist_cert.specs.ClaimRules.{yes}
 use Rattle.dist_cert.specs.Form.{Word}
-use Rattle.dist_cert.specs.ListLaws.{any-from, from-any}
+use Rattle.dist_cert.specs.ListLaws.{any-from}
 use Rattle.dist_cert.specs.Rising.{is_among}
 use Rattle.dist_now.specs.Members.{members_of}
-use Rattle.dist_now.specs.PresentClauses.{Apart, AreNumbersOf, Demand, IsClauseFor, IsDemand, IsItemAnd, IsMetBy, Item, Required, installed, not_installed}
+use Rattle.dist_now.specs.PresentClauses.{Apart, AreNumbersOf, Demand, IsClauseFor, IsDemand, IsMetBy, Item, Required, installed, not_installed}
 use Rattle.dist_now.specs.PresentLaws.{AreModelsInstallations}
-use Rattle.dist_now.specs.Relations.{AreMembersByValues, AreOf, AreRelations, Fails, HaveClauses}
+use Rattle.dist_now.specs.Relations.{AreMembersByValues, AreRelations, HaveClauses}
 use Rattle.dist_subject.specs.MemberLaws.{value-among}
 use Rattle.dist_subject.specs.Present.{truth_of}
 use Rattle.dist_subject.specs.TruthLaws.{truth-length}
-use Rattle.dist_explain.specs.Answered.{AreAllBut, AreDecided, HasAll, IsOfRelation, IsOnlyMissing, LeavesOpen, Selects, ShowsNeeded}
-use Rattle.dist_explain.specs.Explanation.{Explain, FailsNumber, IsNeeded, IsRelation}
-use Rattle.dist_explain.specs.Selectors.{AreExplainedByNoModel, AreModelsBySelectors, HasNoModel, selected, selected_clauses, selector}
+use Rattle.dist_explain.specs.Answered.{HasAll, IsOfRelation, IsOnlyMissing, Selects}
+use Rattle.dist_explain.specs.Explanation.{Explain, FailsNumber, IsNeeded}
+use Rattle.dist_explain.specs.Selectors.{AreExplainedByNoModel, AreModelsBySelectors, HasNoModel, selected_clauses, selector}
 use Rattle.dist_explain.specs.declared.asked.Asked.{Asked}
 use Rattle.dist_explain.proofs.ExplainLaws.{selected-at, selected-model}
 use Rattle.dist_findings.specs.SoundLaws.{IsSound}
-use Rattle.dist_findings.specs.declared.finding.Finding.{Finding}
 use Rattle.dist_findings.specs.declared.finding.Finding.TheVariants as finding
 
 -- ---- the variables of the clauses

@@ -1,13 +1,13 @@
 -- What is noted of findings, with one finding more, and what it answers.
-use Rattle.std.proofs.Common.{◌≡◌, ◌≢◌, ◌⊎◌, ◌↔◌, inl, inr, ℕ, zero, suc, ◌+◌, ◌<◌, ◌≤◌, Bool, true, false, not, List, [], ◌∷◌, ◌++◌, length, filter}
-use Rattle.std.proofs.Common.{Option, Some, None, refl, sym, ap, subst, ◌∙◌, arith, append_assoc, cond, get_or, zero-add, IsTrue, ◌||◌}
-use Rattle.std.proofs.Common.{Result, Ok, Err}
+use Rattle.std.proofs.Common.{◌≡◌, ◌≢◌, ◌⊎◌, ◌↔◌, inl, inr, ℕ, ◌+◌, ◌<◌, ◌≤◌, Bool, true, false, not, List, [], ◌∷◌, ◌++◌, filter}
+use Rattle.std.proofs.Common.{Option, Some, None, refl, sym, ap, subst, ◌∙◌, arith, append_assoc, cond, get_or, zero-add, IsTrue, ◌||◌, Result, Ok, Err}
 use Rattle.std.specs.Prelude.{OnOk}
-use Rattle.std.specs.List.{All, AllPairs, Any, Contains, list_all}
+use Rattle.std.specs.List.{Any, Contains, list_all}
 use Rattle.std.proofs.lemmas.Bool.{and_from, and_parts, cases_Bool, cases_order, or_cases, or_left, or_right, true≢false, false≢true}
-use Rattle.std.proofs.lemmas.List.Elements.{All-contains, All-contains_itself, All-filter, Contains-append_left, Contains-append_right, Contains-push, Contains-push_cases, filter_passes}
+use Rattle.std.proofs.lemmas.List.Elements.{All-contains, All-contains_itself, All-filter, Contains-append_left, Contains-append_right, Contains-push}
+use Rattle.std.proofs.lemmas.List.Elements.{Contains-push_cases, filter_passes}
 use Rattle.std.proofs.lemmas.List.Kept.{AllPairs-filter}
-use Rattle.dist_base.specs.ListLaws.{all-contained, any-contained, any-head, any-there}
+use Rattle.dist_base.specs.ListLaws.{all-contained, any-contained, any-there}
 use Rattle.dist_cert.specs.ClaimRules.{yes}
 use Rattle.dist_cert.specs.Form.{Word}
 use Rattle.dist_cert.specs.ListLaws.{any-from, contains-cases, contains-later, from-any}
@@ -16,8 +16,8 @@ use Rattle.dist_explain.specs.Answered.{Answers, AreAllBut, AreAnswered, AreDeci
 use Rattle.dist_explain.specs.Answered.{NoneRefuted, RefutesSome, Selects, ShowsAll, ShowsNeeded}
 use Rattle.dist_explain.specs.AskedPrivate.{SelectsNone}
 use Rattle.dist_explain.specs.ListedPrivate.{HasAllBehind, HasOneMore, IsNoneMissing}
-use Rattle.dist_explain.specs.NotesPrivate.{AreAllMarked, AreFirstNotes, AreInOrder, AreLastNotes, AreMarks, AreNotes, AreNotesOf, IsMarked, LastView, MarksOpen, MarksShown}
-use Rattle.dist_explain.specs.NotesPrivate.{NotesView, are_all_marked, fresh, undecided_of}
+use Rattle.dist_explain.specs.NotesPrivate.{AreAllMarked, AreFirstNotes, AreInOrder, AreLastNotes, AreMarks, AreNotes, AreNotesOf, IsMarked, LastView}
+use Rattle.dist_explain.specs.NotesPrivate.{MarksOpen, MarksShown, NotesView, are_all_marked, fresh, undecided_of}
 use Rattle.dist_explain.specs.declared.asked.Asked.{Asked}
 use Rattle.dist_explain.specs.declared.explained.Explained.{Explained}
 use Rattle.dist_explain.specs.declared.explained.Explained.TheVariants.{Installable, Undecided, Broken}
@@ -100,7 +100,8 @@ pub first-next : (asked : Asked) (found : List Finding) (f : Finding) (installed
     → AreFirstNotes asked found installed left_open → AreFirstNotes asked (found ++ f ∷ []) also still
 first-next asked found f installed left_open also still not shows leaves notes = record {
   none = none-more asked found f notes.none not;
-  shown = more-any (also ≡ true) (ShowsAll asked) found f (through (also ≡ true) (installed ≡ true) (Any (ShowsAll asked) found) (ShowsAll asked f) shows notes.shown);
+  shown = more-any (also ≡ true) (ShowsAll asked) found f
+      (through (also ≡ true) (installed ≡ true) (Any (ShowsAll asked) found) (ShowsAll asked f) shows notes.shown);
   open_still = more-any (still ≡ true) (LeavesAllOpen asked) found f
       (through (still ≡ true) (left_open ≡ true) (Any (LeavesAllOpen asked) found) (LeavesAllOpen asked f) leaves notes.open_still);
 }
@@ -126,7 +127,8 @@ last-next asked found f last new not same shows leaves notes =
             let Shows : List ℕ → Finding → Type 0 = λ ns. ShowsNeeded asked ns one in
             subst (λ ns. Contains new.shown one ↔ Any (Shows ns) (later ++ f ∷ [])) (sym same)
             (more-any (Contains new.shown one) (Shows last.numbers) later f
-            (through (Contains new.shown one) (Contains last.shown one) (Any (Shows last.numbers) later) (Shows last.numbers f) (shows one) (notes.marks.shown one)));
+            (through (Contains new.shown one) (Contains last.shown one) (Any (Shows last.numbers) later) (Shows last.numbers f) (shows one)
+            (notes.marks.shown one)));
         left_open = λ one.
             let Leaves : List ℕ → Finding → Type 0 = λ ns. LeavesOpen asked ns one in
             subst (λ ns. Contains new.left_open one ↔ Any (Leaves ns) (later ++ f ∷ [])) (sym same)
@@ -550,7 +552,8 @@ marked-answered asked found installed left_open last upto order notes = (
 )
 
 -- a list that says of each of some numbers whether it is in another one
-pub within-by : (numbers others : List ℕ) (b : Bool) → b ≡ list_all (is_among numbers) others → IsTrue b ↔ ((one : ℕ) → Contains others one → Contains numbers one)
+pub within-by : (numbers others : List ℕ) (b : Bool) → b ≡ list_all (is_among numbers) others
+    → IsTrue b ↔ ((one : ℕ) → Contains others one → Contains numbers one)
 within-by numbers others b is = (
   (λ yes one there. from-any one numbers (all-true others (sym is ∙ yes) one there)),
   (λ each. is ∙ true-all others each),
@@ -574,7 +577,8 @@ within-by numbers others b is = (
 pub marked-by : (last : LastView) (b : Bool) → b ≡ list_all (λ one. is_among last.shown one || is_among last.left_open one) last.numbers
     → IsTrue b ↔ AreAllMarked last
 marked-by last b is = (
-  (λ yes. all-contained (λ one. Contains last.shown one ⊎ Contains last.left_open one) last.numbers (λ one there. all-true last.numbers (sym is ∙ yes) one there)),
+  (λ yes. all-contained (λ one. Contains last.shown one ⊎ Contains last.left_open one) last.numbers
+      (λ one there. all-true last.numbers (sym is ∙ yes) one there)),
   (λ each. is ∙ true-all last.numbers (λ one there. All-contains (λ one. Contains last.shown one ⊎ Contains last.left_open one) last.numbers one each there)),
 )
   where
@@ -748,7 +752,8 @@ decides-last asked found n last b upto is order notes value =
 pub decides-first : (asked : Asked) (found : List Finding) (n : NotesView) → n.asked.number ≤ n.asked.packages → n.last ≡ None
     → AreNotesOf asked found n → ((n.installed ≡ true) ⊎ (n.left_open ≡ true)) ↔ AreAnswered asked found
 decides-first asked found n upto is notes =
-    subst (λ (o : Option LastView). IsMarked n.installed n.left_open o ↔ AreAnswered asked found) is (decides asked found n upto (subst HaveOrder (sym is) tt) notes)
+    subst (λ (o : Option LastView). IsMarked n.installed n.left_open o ↔ AreAnswered asked found) is
+    (decides asked found n upto (subst HaveOrder (sym is) tt) notes)
 
 pub answers-last : (asked : Asked) (found : List Finding) (n : NotesView) (last : LastView) → n.asked.number ≤ n.asked.packages → n.last ≡ Some last
     → AreInOrder last → AreNotesOf asked found n → ¬ ¬ AreAnswered asked found → Answers asked found (Broken last.shown (undecided_of last))

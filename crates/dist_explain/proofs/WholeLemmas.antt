@@ -1,26 +1,22 @@
 -- What the lines of an accepted file find decides the answer, and each finding is sound.
-use Rattle.std.proofs.Common.{◌≡◌, ◌⊎◌, inl, inr, ℕ, ◌+◌, ◌-◌, ◌<◌, ◌≤◌, ◌^◌, List, [], ◌∷◌, ◌++◌, length, Option, Some, None, refl, sym, ap, subst, ◌∙◌, arith}
-use Rattle.std.proofs.Common.{append_assoc}
+use Rattle.std.proofs.Common.{◌≡◌, inl, inr, ℕ, List, [], ◌∷◌, ◌++◌, Option, Some, None, refl, sym, ap, subst, ◌∙◌, arith, append_assoc}
 use Rattle.std.specs.Prelude.{All, Contains}
 use Rattle.std.proofs.lemmas.List.{append-nil}
 use Rattle.std.proofs.lemmas.List.Elements.{Contains-push}
-use Rattle.dist_base.specs.Ascii.{line_feed}
 use Rattle.dist_outside.specs.declared.limits.Limits.{Limits}
 use Rattle.dist_cert.specs.declared.faults.CertCause.TheVariants as causes
 use Rattle.dist_cert.specs.declared.records.CertRecord.{CertRecord}
 use Rattle.dist_cert.specs.declared.records.CertRecord.TheVariants.{End}
-use Rattle.dist_cert.specs.ClearFormsLaws.{FormsAreClear}
-use Rattle.dist_cert.specs.FileLines.{BeginsWith, HasFaultBehind, IsOneLine, IsWhole, lines_text}
+use Rattle.dist_cert.specs.FileLines.{BeginsWith, IsWhole, lines_text}
 use Rattle.dist_cert.specs.Form.{HasForm, Word, record_text}
 use Rattle.dist_cert.specs.GroupLaws.{all-at}
 use Rattle.dist_cert.specs.ListLaws.{contains-cases}
 use Rattle.dist_cert.specs.OneVerdictLaws.{first_line_of}
 use Rattle.dist_judge.specs.ClearKindLaws.{IsClear}
-use Rattle.dist_judge.specs.FileKind.{FileKind, rules_of}
+use Rattle.dist_judge.specs.FileKind.{rules_of}
 use Rattle.dist_judge.specs.HeadingLaws.{heading_begins}
 use Rattle.dist_judge.specs.WholeLaws.{whole_ended, whole_faultless}
 use Rattle.dist_check_state.specs.ModelLaws.{IsSoundRule}
-use Rattle.dist_check_state.specs.ToldLaws.{most-told, stable}
 use Rattle.dist_findings.specs.AnswerFiles.{AnswerFile, Inputs, files_of, limit_of}
 use Rattle.dist_findings.specs.FindingLaws.{findings_push, open_after}
 use Rattle.dist_findings.specs.Findings.{findings, found_at}

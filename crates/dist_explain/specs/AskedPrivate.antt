@@ -1,5 +1,6 @@
 -- Serves private contracts: which relations a question selects.
-use Rattle.std.specs.Prelude.{◌==◌, ◌&&◌, ◌||◌, if◌then◌else◌, ℕ, ◌-◌, Bool, List, Option, Some, None, is_some, nat_le, nat_lt}
+use Rattle.std.specs.Prelude.{◌==◌, ◌&&◌, ◌||◌, if◌then◌else◌, ℕ, ◌-◌, Bool, List, Option, Some, None, is_some, nat_le}
+use Rattle.std.specs.Prelude.{nat_lt}
 use Rattle.dist_cert.specs.Form.{Word}
 use Rattle.dist_explain.specs.Answered.{Selects}
 use Rattle.dist_explain.specs.declared.asked.Asked.{Asked}

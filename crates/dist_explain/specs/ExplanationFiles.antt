@@ -16,6 +16,7 @@ use Rattle.dist_findings.specs.AnswerFiles.{AnswerFile, Inputs}
 abbrev pub number_at : ℕ → List ℕ → ℕ
 number_at place numbers = slice_index_or numbers place 0
 
+-- what they speak of
 abbrev pub asked_by : List ℕ → Asked
 asked_by numbers = record {
   packages = number_at 1 numbers;
@@ -30,7 +31,8 @@ pub record IsSelectedOf (r : PackageList) (basis : Inputs) : Type 0 where
   pub selected_ones : basis.clauses ≡ selected_clauses r clauses
   pub variables : basis.variables ≡ length r.packages + length clauses
 
--- The numbers are those of so many packages, and so many packages and relations; the package is one of these.
+-- The numbers are those of so many packages, and so many variables, one for each package and each relation; the package
+-- is one of these.
 pub record AreNumbersFor (packages variables : ℕ) (numbers : List ℕ) : Type 0 where
   pub packages_are : number_at 1 numbers ≡ packages
   pub variables_are : number_at 1 numbers + number_at 2 numbers ≡ variables
@@ -56,6 +58,7 @@ pub record PassesWithSelectors (r : PackageList) (limits : Limits) (what : What)
 abbrev pub PassesFirst : PackageList → Limits → What → Type 0
 PassesFirst r limits what = PassesPresent r false limits what ⊎ PassesWithSelectors r limits what
 
+-- The files: what their first lines begin with, what they are judged by, and when their lines have decided an answer.
 abbrev pub explanation_files : PackageList → AnswerFile
 explanation_files r = record {
   front = codes "distfuture-explain 1";

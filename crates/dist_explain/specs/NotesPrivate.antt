@@ -1,6 +1,6 @@
 -- Serves private contracts: what is noted of the findings of an explanation's file.
-use Rattle.std.specs.Prelude.{◌≡◌, ◌⊎◌, ◌↔◌, ◌||◌, ℕ, Bool, true, false, List, [], Option, Some, None, All, Any, Contains}
-use Rattle.std.specs.Prelude.{filter, not}
+use Rattle.std.specs.Prelude.{◌≡◌, ◌⊎◌, ◌↔◌, ◌||◌, ℕ, Bool, true, false, List, [], Option, Some, None, All, Any}
+use Rattle.std.specs.Prelude.{Contains, filter, not}
 use Rattle.std.specs.List.{list_all}
 use Rattle.dist_cert.specs.Rising.{AreRising, is_among}
 use Rattle.dist_explain.specs.Answered.{AreAllBut, AreLast, IsOnlyMissing, LeavesAllOpen, LeavesOpen, NoneRefuted}
@@ -51,7 +51,7 @@ pub record MarksOpen (others : List ℕ) (old new : LastView) : Type 0 where
 
 -- ---- what the notes say
 
--- they are those of these later findings
+-- What is known of the relations is what these later findings say.
 pub record AreMarks (asked : Asked) (later : List Finding) (last : LastView) : Type 0 where
   pub shown : (one : ℕ) → Contains last.shown one ↔ Any (ShowsNeeded asked last.numbers one) later
   pub left_open : (one : ℕ) → Contains last.left_open one ↔ Any (LeavesOpen asked last.numbers one) later
@@ -68,6 +68,7 @@ pub record AreLastNotes (asked : Asked) (found : List Finding) (last : LastView)
   pub are_last : AreLast asked found last.numbers later
   pub marks : AreMarks asked later last
 
+-- what is noted before a question of relations is refuted, and behind the last one
 abbrev pub AreNotes : Asked → List Finding → (installed left_open : Bool) → Option LastView → Type 0
 AreNotes asked found installed left_open None = AreFirstNotes asked found installed left_open
 AreNotes asked found installed left_open (Some last) = AreLastNotes asked found last

@@ -37,7 +37,8 @@ IsExplanation r limits text h explained = (numbers : List ℕ) × (h ≡ header_
 -- When each answer is given. A fault of the desk and want of memory may come in place of any.
 abbrev pub ExplanationAnswers : PackageList → Limits → List ℕ → Result ExplainVerdict WorkError → Type 0
 ExplanationAnswers r limits text (Ok (Accepted h explained)) = IsExplanation r limits text h explained
-ExplanationAnswers r limits text (Ok (Refused fault)) = StopsWith (files_of (explanation_files r)) limits text (Bad fault)
+ExplanationAnswers r limits text (Ok (Refused fault)) =
+    StopsWith (files_of (explanation_files r)) limits text (Bad fault)
 ExplanationAnswers r limits text (Err error) = StopsWith (files_of (explanation_files r)) limits text (Work error)
 
 -- ---- what is true

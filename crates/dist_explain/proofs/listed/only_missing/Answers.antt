@@ -1,5 +1,4 @@
-use Rattle.std.proofs.Common.{◌≡◌, ◌+◌, ◌∙◌, List, get_or, subst, sym, take, true}
-use Rattle.std.specs.Prelude.{Contains}
+use Rattle.std.proofs.Common.{◌+◌, ◌∙◌, subst, sym, take}
 use Rattle.std.proofs.lemmas.Bool.{true≢false}
 use Rattle.dist_explain.proofs.ListedLemmas.{IsMissingOf, next-first, next-second, next-there, none-next}
 use Rattle.dist_explain.proofs.listed.only_missing.Goals.{then-not-has_behind+else-is_some, else-not-has_behind}

@@ -1,7 +1,8 @@
 use Rattle.std.proofs.Common.{◌↔◌, ◌∙◌, List, ℕ, subst, sym}
 use Rattle.std.specs.Prelude.{Contains}
 use Rattle.dist_explain.proofs.AskedLemmas.{selected-none-alone, selected-none-package, selected-some}
-use Rattle.dist_explain.proofs.asked.Asked.selected.Goals.{then-not-is_alone-via-then-not-is_alone, then-not-is_alone-via-else-not-is_alone+then-not-has_package_word}
+use Rattle.dist_explain.proofs.asked.Asked.selected.Goals.{then-not-is_alone-via-then-not-is_alone}
+use Rattle.dist_explain.proofs.asked.Asked.selected.Goals.{then-not-is_alone-via-else-not-is_alone+then-not-has_package_word}
 use Rattle.dist_explain.proofs.asked.Asked.selected.Goals as goal
 
 pub returns-then-not-is_alone : goal.returns-then-not-is_alone

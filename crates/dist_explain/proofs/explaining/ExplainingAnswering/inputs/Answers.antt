@@ -1,4 +1,4 @@
-use Rattle.std.proofs.Common.{false, sym, ◌∙◌}
+use Rattle.std.proofs.Common.{sym, ◌∙◌}
 use Rattle.std.proofs.lemmas.Bool.{true≢false}
 use Rattle.dist_explain.proofs.FileLemmas.{right-inputs, wrong-inputs}
 use Rattle.dist_explain.proofs.explaining.ExplainingAnswering.inputs.Goals as goal

@@ -1,4 +1,4 @@
-use Rattle.std.proofs.Common.{◌≡◌, ◌∙◌, inl, inr, Option, Some, None, subst, sym}
+use Rattle.std.proofs.Common.{◌∙◌, inl, inr, subst, sym}
 use Rattle.std.proofs.lemmas.Bool.{true≢false}
 use Rattle.dist_explain.specs.NotesPrivate.{AreNotesOf, NotesView}
 use Rattle.dist_explain.proofs.NotesLemmas.{decides-first, decides-last}

@@ -1,11 +1,10 @@
-use Rattle.std.proofs.Common.{◌≡◌, ◌∙◌, ◌++◌, ◌∷◌, [], List, Option, Some, None, ℕ, Bool, true, subst, sym, ap}
+use Rattle.std.proofs.Common.{◌∙◌, List, ℕ, true, subst, sym}
 use Rattle.std.specs.Prelude.{Contains}
 use Rattle.std.proofs.lemmas.Bool.{true≢false}
 use Rattle.std.proofs.lemmas.Result.{on_ok_weaker}
 use Rattle.dist_cert.specs.ListLaws.{any-from, from-any}
 use Rattle.dist_explain.specs.ListedPrivate.{HasAllBehind}
-use Rattle.dist_explain.specs.NotesPrivate.{AreNotesOf, LastView, NotesView}
-use Rattle.dist_explain.specs.declared.asked.Asked.{Asked}
+use Rattle.dist_explain.specs.NotesPrivate.{AreNotesOf, NotesView}
 use Rattle.dist_explain.proofs.NotesLemmas.{installed-first, installed-last, kept-by, set-by, skip-installed}
 use Rattle.dist_explain.proofs.notes.Notes.note_installed.Goals as goal
 

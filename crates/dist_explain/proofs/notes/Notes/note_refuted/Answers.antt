@@ -1,4 +1,4 @@
-use Rattle.std.proofs.Common.{List, Option, None, ℕ, subst, ap}
+use Rattle.std.proofs.Common.{subst, ap}
 use Rattle.std.specs.Prelude.{MatchOption}
 use Rattle.dist_explain.specs.Answered.{Selects}
 use Rattle.dist_explain.specs.AskedPrivate.{SelectsNone}
@@ -12,4 +12,5 @@ returns-in_default c = λ asked found notes.
     let question = c.args.question.now in
     let none = subst (λ o. MatchOption o (SelectsNone c.self.inside.asked question) (λ numbers. Selects c.self.inside.asked question numbers.items))
     c.in_default.is c.in_ok-numbers.ensures in
-    skip-refuted asked found question c.args.self.now (subst (λ (a : Asked). SelectsNone a question) (ap (λ (n : NotesView). n.asked) c.self.view_is) none) notes
+    skip-refuted asked found question c.args.self.now
+    (subst (λ (a : Asked). SelectsNone a question) (ap (λ (n : NotesView). n.asked) c.self.view_is) none) notes

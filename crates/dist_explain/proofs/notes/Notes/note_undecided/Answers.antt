@@ -1,11 +1,11 @@
-use Rattle.std.proofs.Common.{◌≡◌, ◌∙◌, ◌++◌, ◌∷◌, [], List, Option, Some, None, ℕ, Bool, true, subst, sym, ap}
+use Rattle.std.proofs.Common.{◌∙◌, ◌++◌, ◌∷◌, [], List, ℕ, true, subst, sym, ap}
 use Rattle.std.specs.Prelude.{MatchOption}
 use Rattle.std.proofs.lemmas.Bool.{true≢false}
 use Rattle.std.proofs.lemmas.Result.{on_ok_weaker}
 use Rattle.dist_explain.specs.Answered.{Selects}
 use Rattle.dist_explain.specs.AskedPrivate.{SelectsNone}
 use Rattle.dist_explain.specs.ListedPrivate.{HasAllBehind}
-use Rattle.dist_explain.specs.NotesPrivate.{AreNotesOf, LastView, MarksOpen, NotesView}
+use Rattle.dist_explain.specs.NotesPrivate.{AreNotesOf, MarksOpen, NotesView}
 use Rattle.dist_explain.specs.declared.asked.Asked.{Asked}
 use Rattle.dist_explain.proofs.NotesLemmas.{kept-by, ok-of, set-by, skip-undecided, undecided-first, undecided-last}
 use Rattle.dist_findings.specs.declared.finding.Finding.{Finding}
@@ -18,7 +18,8 @@ returns-in_default c = λ asked found notes.
     let question = c.args.question.now in
     let none = subst (λ o. MatchOption o (SelectsNone c.self.inside.asked question) (λ numbers. Selects c.self.inside.asked question numbers.items))
     c.in_default.is c.in_ok-numbers.ensures in
-    skip-undecided asked found question c.args.self.now (subst (λ (a : Asked). SelectsNone a question) (ap (λ (n : NotesView). n.asked) c.self.view_is) none) notes
+    skip-undecided asked found question c.args.self.now
+    (subst (λ (a : Asked). SelectsNone a question) (ap (λ (n : NotesView). n.asked) c.self.view_is) none) notes
 
 pub returns-in-Some-last : goal.returns-in-Some-last
 returns-in-Some-last c = λ asked found notes.
