@@ -1,8 +1,10 @@
 -- What an accepted file proves of its package.
-use Rattle.std.proofs.Common.{◌≡◌, ◌≢◌, ◌⊎◌, ◌↔◌, inl, inr, ℕ, ◌+◌, ◌-◌, ◌<◌, ◌≤◌, ◌^◌, false, List, [], ◌∷◌, ◌++◌, length, refl, sym, subst, arith}
+use Rattle.std.proofs.Common.{◌≡◌, ◌≢◌, ◌⊎◌, ◌↔◌, inl, inr, ℕ, ◌+◌, ◌-◌, ◌<◌, ◌≤◌, ◌^◌, false, List, [], ◌∷◌, ◌++◌}
+use Rattle.std.proofs.Common.{length, refl, sym, subst, arith}
 use Rattle.std.specs.Prelude.{All, Any, Contains}
 use Rattle.std.proofs.lemmas.Option.{get_or_from_slice_get, slice_get_within}
-use Rattle.std.proofs.lemmas.List.Elements.{All-cons, All-contains, All-head, All-push, All-tail, All-weaker, Contains-append_cases, Contains-append_left}
+use Rattle.std.proofs.lemmas.List.Elements.{All-cons, All-contains, All-head, All-push, All-tail, All-weaker}
+use Rattle.std.proofs.lemmas.List.Elements.{Contains-append_cases, Contains-append_left}
 use Rattle.std.proofs.lemmas.List.Elements.{Contains-append_right}
 use Rattle.dist_base.specs.ListLaws.{all-contained, any-contained, any-there, element-at}
 use Rattle.dist_clause.specs.Formula.{Literal, literal}
@@ -12,7 +14,8 @@ use Rattle.dist_cert.specs.ListLaws.{contains-later}
 use Rattle.dist_repo.specs.PackageList.{PackageList}
 use Rattle.dist_repo.specs.declared.package.Package.{Package}
 use Rattle.dist_now.specs.PresentClauses.{Demand}
-use Rattle.dist_explain.specs.Answered.{Answers, AreDecided, AreLast, IsOfRelation, LeavesAllOpen, LeavesOpen, Selects, ShowsAll, ShowsNeeded}
+use Rattle.dist_explain.specs.Answered.{Answers, AreDecided, AreLast, IsOfRelation, LeavesAllOpen, LeavesOpen, Selects}
+use Rattle.dist_explain.specs.Answered.{ShowsAll, ShowsNeeded}
 use Rattle.dist_explain.specs.Explanation.{Explain, FailsNumber, IsNeeded}
 use Rattle.dist_explain.specs.Selectors.{selected, selected_clauses}
 use Rattle.dist_explain.specs.Verdicts.{IsBroken, IsDecided, IsTrueOf}
@@ -20,7 +23,8 @@ use Rattle.dist_explain.specs.declared.asked.Asked.{Asked}
 use Rattle.dist_explain.specs.declared.explained.Explained.{Explained}
 use Rattle.dist_explain.specs.declared.explained.Explained.TheVariants.{Installable, Undecided, Broken}
 use Rattle.dist_explain.proofs.ConeLemmas.{IsUpto, hard-bound}
-use Rattle.dist_explain.proofs.MeaningLemmas.{IsAsked, Known, clauses-in-range, installed-healthy, refuted-explains, shown-needed}
+use Rattle.dist_explain.proofs.MeaningLemmas.{IsAsked, Known, clauses-in-range, installed-healthy, refuted-explains}
+use Rattle.dist_explain.proofs.MeaningLemmas.{shown-needed}
 use Rattle.dist_findings.specs.SoundLaws.{IsSound}
 use Rattle.dist_findings.specs.declared.finding.Finding.{Finding}
 use Rattle.dist_findings.specs.declared.finding.Finding.TheVariants as finding

@@ -1,5 +1,6 @@
 -- The files of explanations: what an accepted one proves, and what is answered of it.
-use Rattle.std.proofs.Common.{◌≡◌, ◌≢◌, ℕ, ◌+◌, ◌-◌, ◌<◌, ◌==◌, true, false, not, List, [], ◌∷◌, length, refl, sym, ap, subst, ◌∙◌, arith}
+use Rattle.std.proofs.Common.{◌≡◌, ◌≢◌, ℕ, ◌+◌, ◌-◌, ◌<◌, ◌==◌, true, false, not, List, [], ◌∷◌, length, refl, sym, ap}
+use Rattle.std.proofs.Common.{subst, ◌∙◌, arith}
 use Rattle.std.proofs.Common.{slice_get, Option, None, Some, codes, ◌↔◌}
 use Rattle.std.specs.Prelude.{All}
 use Rattle.std.specs.List.{list_all}
@@ -25,7 +26,8 @@ use Rattle.dist_now.specs.Relations.{AreRelations}
 use Rattle.dist_check_state.specs.ModelLaws.{WhatFollows, sound-rule}
 use Rattle.dist_check_state.specs.ToldLaws.{most-told, stable}
 use Rattle.dist_explain.specs.Answered.{Answers, AreAnswered}
-use Rattle.dist_explain.specs.ExplanationFiles.{AreNumbersFor, AreWithin, IsSelectedOf, asked_by, explanation_files, number_at}
+use Rattle.dist_explain.specs.ExplanationFiles.{AreNumbersFor, AreWithin, IsSelectedOf, asked_by, explanation_files}
+use Rattle.dist_explain.specs.ExplanationFiles.{number_at}
 use Rattle.dist_explain.specs.NotesPrivate.{AreNotesOf, NotesView}
 use Rattle.dist_explain.specs.Selectors.{IsSelectedSet, selected, selected_clauses}
 use Rattle.dist_explain.specs.Verdicts.{AcceptedMeans, IsExplanation, IsTrueOf, header_by}

@@ -8,3 +8,4 @@ pub mod WholeLemmas
 pub mod ConeLemmas
 pub mod AcceptedLemmas
 pub mod FileLemmas
+pub mod RelationLists

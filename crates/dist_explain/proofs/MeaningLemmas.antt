@@ -1,5 +1,6 @@
 -- What the findings of an explanation's file prove of the package.
-use Rattle.std.proofs.Common.{◌≡◌, ◌≢◌, ◌⊎◌, inl, inr, ℕ, ◌+◌, ◌-◌, ◌≤◌, Bool, true, false, List, [], ◌∷◌, length, get_or, map}
+use Rattle.std.proofs.Common.{◌≡◌, ◌≢◌, ◌⊎◌, inl, inr, ℕ, ◌+◌, ◌-◌, ◌≤◌, Bool, true, false, List, [], ◌∷◌, length}
+use Rattle.std.proofs.Common.{get_or, map}
 use Rattle.std.proofs.Common.{Some, sym, ap, subst, ◌∙◌, arith, slice_get}
 use Rattle.std.specs.Prelude.{All, Contains, IsSomeAnd}
 use Rattle.std.proofs.lemmas.Bool.{cases_order, false≢true}
@@ -16,7 +17,8 @@ use Rattle.dist_cert.specs.Form.{Word}
 use Rattle.dist_cert.specs.ListLaws.{any-from}
 use Rattle.dist_cert.specs.Rising.{is_among}
 use Rattle.dist_now.specs.Members.{members_of}
-use Rattle.dist_now.specs.PresentClauses.{Apart, AreNumbersOf, Demand, IsClauseFor, IsDemand, IsMetBy, Item, Required, installed, not_installed}
+use Rattle.dist_now.specs.PresentClauses.{Apart, AreNumbersOf, Demand, IsClauseFor, IsDemand, IsMetBy, Item, Required}
+use Rattle.dist_now.specs.PresentClauses.{installed, not_installed}
 use Rattle.dist_now.specs.PresentLaws.{AreModelsInstallations}
 use Rattle.dist_now.specs.Relations.{AreMembersByValues, AreRelations, HaveClauses}
 use Rattle.dist_subject.specs.MemberLaws.{value-among}
@@ -24,7 +26,8 @@ use Rattle.dist_subject.specs.Present.{truth_of}
 use Rattle.dist_subject.specs.TruthLaws.{truth-length}
 use Rattle.dist_explain.specs.Answered.{HasAll, IsOfRelation, IsOnlyMissing, Selects}
 use Rattle.dist_explain.specs.Explanation.{Explain, FailsNumber, IsNeeded}
-use Rattle.dist_explain.specs.Selectors.{AreExplainedByNoModel, AreModelsBySelectors, HasNoModel, selected_clauses, selector}
+use Rattle.dist_explain.specs.Selectors.{AreExplainedByNoModel, AreModelsBySelectors, HasNoModel, selected_clauses}
+use Rattle.dist_explain.specs.Selectors.{selector}
 use Rattle.dist_explain.specs.declared.asked.Asked.{Asked}
 use Rattle.dist_explain.proofs.ExplainLaws.{selected-at, selected-model}
 use Rattle.dist_findings.specs.SoundLaws.{IsSound}

@@ -8,3 +8,5 @@ pub mod AskedPrivate
 pub mod NotesPrivate
 pub mod ExplanationFiles
 pub mod Verdicts
+pub mod RelationList
+pub mod RelationListPrivate

@@ -13,11 +13,13 @@ mod file;
 mod laws;
 mod listed;
 mod notes;
+mod relations;
 mod selected;
 mod verdict;
 
 pub use explained::Explained;
 pub use file::check_explained;
 pub use laws::{accepted_explanations_hold, selectors_explain};
+pub use relations::{Relation, relations_of};
 pub use selected::with_selectors;
 pub use verdict::{ExplainHeader, ExplainVerdict};
