@@ -62,7 +62,7 @@ clear-explanations clear r = clear_files clear (explanation_files r) front-line
 
 -- ---- numbers that fit
 
-fitting : (packages variables : ℕ) (numbers : List ℕ) → ¬ ¬ AreNumbersFor packages variables numbers → AreNumbersFor packages variables numbers
+pub fitting : (packages variables : ℕ) (numbers : List ℕ) → ¬ ¬ AreNumbersFor packages variables numbers → AreNumbersFor packages variables numbers
 fitting packages variables numbers twice = record {
   packages_are = stable (cases_eq (number_at 1 numbers) packages) (λ none. twice (λ fits. none fits.packages_are));
   variables_are = stable (cases_eq (number_at 1 numbers + number_at 2 numbers) variables) (λ none. twice (λ fits. none fits.variables_are));

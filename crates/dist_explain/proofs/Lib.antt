@@ -9,3 +9,4 @@ pub mod ConeLemmas
 pub mod AcceptedLemmas
 pub mod FileLemmas
 pub mod RelationLists
+pub mod OneExplanation

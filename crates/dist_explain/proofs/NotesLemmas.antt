@@ -415,7 +415,7 @@ split-one P (f ∷ firsts) first more [] second rest is one other none also =
 split-one P (f ∷ firsts) first more (s ∷ seconds) second rest is one other none also =
     split-one P firsts first more seconds second rest (let e : firsts ++ first ∷ more ≡ seconds ++ second ∷ rest = cc in e) one other none also
 
-last-one : (asked : Asked) (found : List Finding) (numbers : List ℕ) (later : List Finding) (others : List ℕ) (more : List Finding)
+pub last-one : (asked : Asked) (found : List Finding) (numbers : List ℕ) (later : List Finding) (others : List ℕ) (more : List Finding)
     → asked.number ≤ asked.packages → AreLast asked found numbers later → AreLast asked found others more → (others ≡ numbers) × (more ≡ later)
 last-one asked found numbers later others more upto first second =
     let one = split-one (RefutesSome asked) first.earlier (finding.Refuted first.question) later second.earlier (finding.Refuted second.question) more
@@ -427,7 +427,7 @@ last-one asked found numbers later others more upto first second =
     asked-of q r is = cc
 
 -- a question of relations is refuted, where there is a last one
-some-refuted : (asked : Asked) (found : List Finding) (numbers : List ℕ) (later : List Finding) → AreLast asked found numbers later
+pub some-refuted : (asked : Asked) (found : List Finding) (numbers : List ℕ) (later : List Finding) → AreLast asked found numbers later
     → ¬ NoneRefuted asked found
 some-refuted asked found numbers later last none =
     let all : List Finding = last.earlier ++ finding.Refuted last.question ∷ later in

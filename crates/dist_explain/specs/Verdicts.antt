@@ -3,6 +3,7 @@ use Rattle.std.specs.Prelude.{◌≡◌, ℕ, ◌+◌, ◌-◌, ◌<◌, ◌≤�
 use Rattle.dist_base.specs.declared.TheConstants.{MAX_LIMIT}
 use Rattle.dist_outside.specs.declared.limits.Limits.{Limits}
 use Rattle.dist_outside.specs.declared.trouble.WorkError.{WorkError}
+use Rattle.dist_outside.specs.declared.trouble.WorkError.TheVariants.{ReadFault, NoMemory}
 use Rattle.dist_cert.specs.declared.faults.ReadCertError.TheVariants.{Bad, Work}
 use Rattle.dist_cert.specs.Rising.{AreRising}
 use Rattle.dist_judge.specs.Judging.{StopsWith}
@@ -40,6 +41,12 @@ ExplanationAnswers r limits text (Ok (Accepted h explained)) = IsExplanation r l
 ExplanationAnswers r limits text (Ok (Refused fault)) =
     StopsWith (files_of (explanation_files r)) limits text (Bad fault)
 ExplanationAnswers r limits text (Err error) = StopsWith (files_of (explanation_files r)) limits text (Work error)
+
+-- an answer that the text decides: neither a fault of reading nor want of memory
+abbrev pub IsOfText : Result ExplainVerdict WorkError → Type 0
+IsOfText (Err ReadFault) = ⊥
+IsOfText (Err NoMemory) = ⊥
+IsOfText result = Unit {0}
 
 -- ---- what is true
 

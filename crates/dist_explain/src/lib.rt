@@ -19,7 +19,7 @@ mod verdict;
 
 pub use explained::Explained;
 pub use file::check_explained;
-pub use laws::{accepted_explanations_hold, selectors_explain};
+pub use laws::{accepted_explanations_hold, explanations_have_one_answer, selectors_explain};
 pub use relations::{Relation, relations_of};
 pub use selected::with_selectors;
 pub use verdict::{ExplainHeader, ExplainVerdict};
