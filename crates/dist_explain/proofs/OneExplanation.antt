@@ -1,13 +1,12 @@
 -- A text has one answer.
-use Rattle.std.proofs.Common.{◌≡◌, ◌⊎◌, ◌↔◌, inl, inr, ℕ, ◌+◌, ◌<◌, ◌≤◌, Bool, false, List, length, Result, Ok, Err}
+use Rattle.std.proofs.Common.{◌≡◌, inl, inr, ℕ, ◌+◌, ◌≤◌, Bool, false, List, length, Result, Ok, Err}
 use Rattle.std.proofs.Common.{refl, sym, ap, ap₂, subst, ◌∙◌, arith}
-use Rattle.std.specs.Prelude.{Any, Contains}
 use Rattle.dist_outside.specs.declared.limits.Limits.{Limits}
 use Rattle.dist_outside.specs.declared.trouble.What.{What}
 use Rattle.dist_outside.specs.declared.trouble.What.TheVariants.{Variables, Literals}
 use Rattle.dist_outside.specs.declared.trouble.WorkError.{WorkError}
 use Rattle.dist_outside.specs.declared.trouble.WorkError.TheVariants.{ReadFault, NoMemory}
-use Rattle.dist_clause.specs.ClauseList.{ClauseList, literal_count}
+use Rattle.dist_clause.specs.ClauseList.{literal_count}
 use Rattle.dist_clause.specs.Formula.{Literal}
 use Rattle.dist_cert.specs.ClearFormsLaws.{FormsAreClear}
 use Rattle.dist_cert.specs.declared.faults.ReadCertError.TheVariants.{Bad, Work}
@@ -20,9 +19,9 @@ use Rattle.dist_now.specs.PresentClauses.{ArePresentClauses}
 use Rattle.dist_subject.specs.Basis.{Basis, IsBasisOf, Today}
 use Rattle.dist_subject.specs.Limited.{AreInputsWithin}
 use Rattle.dist_subject.specs.Limited as subject
-use Rattle.dist_explain.specs.Answered.{Answers, AreDecided, LeavesOpen, ShowsNeeded}
-use Rattle.dist_explain.specs.ExplanationFiles.{AreNumbersFor, AreWithin, IsSelectedOf, PassesFirst}
-use Rattle.dist_explain.specs.ExplanationFiles.{PassesWithSelectors, asked_by, explanation_files}
+use Rattle.dist_explain.specs.Answered.{Answers, AreDecided}
+use Rattle.dist_explain.specs.ExplanationFiles.{AreWithin, IsSelectedOf, PassesFirst}
+use Rattle.dist_explain.specs.ExplanationFiles.{asked_by, explanation_files}
 use Rattle.dist_explain.specs.Selectors.{PassesSelected, selected_clauses}
 use Rattle.dist_explain.specs.Verdicts.{ExplanationAnswers, IsOfText, header_by}
 use Rattle.dist_explain.specs.declared.asked.Asked.{Asked}

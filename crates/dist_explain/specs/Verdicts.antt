@@ -3,7 +3,8 @@ use Rattle.std.specs.Prelude.{◌≡◌, ℕ, ◌+◌, ◌-◌, ◌<◌, ◌≤�
 use Rattle.dist_base.specs.declared.TheConstants.{MAX_LIMIT}
 use Rattle.dist_outside.specs.declared.limits.Limits.{Limits}
 use Rattle.dist_outside.specs.declared.trouble.WorkError.{WorkError}
-use Rattle.dist_outside.specs.declared.trouble.WorkError.TheVariants.{ReadFault, NoMemory}
+use Rattle.dist_outside.specs.declared.trouble.What.TheVariants.{Variables, Clauses, Literals}
+use Rattle.dist_outside.specs.declared.trouble.WorkError.TheVariants.{ReadFault, TooLarge, NoMemory}
 use Rattle.dist_cert.specs.declared.faults.ReadCertError.TheVariants.{Bad, Work}
 use Rattle.dist_cert.specs.Rising.{AreRising}
 use Rattle.dist_judge.specs.Judging.{StopsWith}
@@ -14,7 +15,7 @@ use Rattle.dist_now.specs.PresentClauses.{Demand}
 use Rattle.dist_now.specs.Relations.{AreRelations}
 use Rattle.dist_explain.specs.Answered.{Answers}
 use Rattle.dist_explain.specs.Explanation.{Explain, IsNeeded}
-use Rattle.dist_explain.specs.ExplanationFiles.{asked_by, explanation_files, number_at}
+use Rattle.dist_explain.specs.ExplanationFiles.{PassesFirst, asked_by, explanation_files, number_at}
 use Rattle.dist_explain.specs.declared.explained.Explained.{Explained}
 use Rattle.dist_explain.specs.declared.explained.Explained.TheVariants.{Installable, Undecided, Broken}
 use Rattle.dist_explain.specs.declared.verdict.ExplainHeader.{ExplainHeader}
@@ -41,6 +42,14 @@ ExplanationAnswers r limits text (Ok (Accepted h explained)) = IsExplanation r l
 ExplanationAnswers r limits text (Ok (Refused fault)) =
     StopsWith (files_of (explanation_files r)) limits text (Bad fault)
 ExplanationAnswers r limits text (Err error) = StopsWith (files_of (explanation_files r)) limits text (Work error)
+
+-- Whatever the desk tells, too many variables, input clauses or literals are told only of a repository for which what
+-- files are judged by passes that number.
+abbrev pub LargeCause : PackageList → Limits → WorkError → Type 0
+LargeCause r limits (TooLarge Variables) = PassesFirst r limits Variables
+LargeCause r limits (TooLarge Clauses) = PassesFirst r limits Clauses
+LargeCause r limits (TooLarge Literals) = PassesFirst r limits Literals
+LargeCause r limits error = Unit {0}
 
 -- an answer that the text decides: neither a fault of reading nor want of memory
 abbrev pub IsOfText : Result ExplainVerdict WorkError → Type 0

@@ -7,7 +7,7 @@ ghost use Rattle.dist_judge.specs.Causes.{OnceRead, TextCause};
 ghost use Rattle.dist_judge.specs.Judging.{OfText};
 ghost use Rattle.dist_repo.specs.Size.{IsWithinSize};
 ghost use Rattle.dist_subject.specs.Limited.{AreStated};
-ghost use Rattle.dist_explain.specs.Verdicts.{ExplanationAnswers, VerdictMeans, header_by};
+ghost use Rattle.dist_explain.specs.Verdicts.{ExplanationAnswers, LargeCause, VerdictMeans, header_by};
 
 use crate::explaining::{Explaining, number_at};
 use crate::laws::accepted_explanations_hold;
@@ -45,6 +45,7 @@ pub fn check_explained<D: Desk>(
     ensures means { IfOk result (VerdictMeans repo.now) }
     ensures present { OnceRead result (IsPresent (D.view desk.old).files name.now) }
     ensures cause { IfErr result (λ error. TextCause (D.view desk.old) (D.view desk.new) (ReadCertError.Work error)) }
+    ensures large { IfErr result (LargeCause repo.now limits.now) }
     ensures only_reads { OnlyReads (D.view desk.old) (D.view desk.new) }
 {
     forms_are_clear();
