@@ -1,12 +1,14 @@
 -- What clauses with selectors mean, by what the clauses of the present mean.
-use Rattle.std.proofs.Common.{◌≡◌, ◌⊎◌, ℕ, zero, suc, ◌+◌, ◌-◌, ◌<◌, ◌≤◌, Bool, true, false, List, [], ◌∷◌, ◌++◌, length, length-append, get_or}
+use Rattle.std.proofs.Common.{◌≡◌, ◌⊎◌, ℕ, zero, suc, ◌+◌, ◌-◌, ◌<◌, ◌≤◌, Bool, true, false, List, [], ◌∷◌, ◌++◌}
+use Rattle.std.proofs.Common.{length, length-append, get_or}
 use Rattle.std.proofs.Common.{Option, None, Some, refl, sym, ap, subst, ◌∙◌, arith, inl, inr, slice_get}
 use Rattle.std.specs.Prelude.{All, Any, Contains, ◌↔◌}
 use Rattle.std.proofs.lemmas.Bool.{cases_lt, false≢true}
 use Rattle.std.proofs.lemmas.List.{get_or-append-add, get_or_append_left, get_or_push}
 use Rattle.std.proofs.lemmas.List.Elements.{All-cons, All-contains, All-nil, All-tail}
 use Rattle.std.proofs.lemmas.Option.{slice_get-get_or, slice_get_within}
-use Rattle.dist_base.specs.ListLaws.{all-contained, any-cases, any-contained, any-head, any-later, any-there, element-at, element-is, has-at, some-element}
+use Rattle.dist_base.specs.ListLaws.{all-contained, any-cases, any-contained, any-head, any-later, any-there}
+use Rattle.dist_base.specs.ListLaws.{element-at, element-is, has-at, some-element}
 use Rattle.dist_clause.specs.Formula.{Literal, IsModel, IsTrueLiteral, MakesTrue, literal, value_of}
 use Rattle.dist_repo.specs.DecidedLaws.{IsDecided, any-decided, same-as}
 use Rattle.dist_repo.specs.PackageList.{PackageList}
@@ -21,7 +23,7 @@ use Rattle.dist_explain.specs.Selectors.{AreExplainedByNoModel, AreModelsBySelec
 -- ---- clauses with selectors
 
 -- a clause is true, or its selector is false
-abbrev TrueOrOff : (ℕ → Bool) → ℕ → List Literal → ℕ → Type 0
+abbrev pub TrueOrOff : (ℕ → Bool) → ℕ → List Literal → ℕ → Type 0
 TrueOrOff value last clause place = MakesTrue value clause ⊎ (value (last + place + 1) ≡ false)
 
 off-cases : (value : ℕ → Bool) (clause : List Literal) (l : Literal) → MakesTrue value (clause ++ l ∷ []) → MakesTrue value clause ⊎ IsTrueLiteral value l
@@ -46,7 +48,7 @@ cases-off value (m ∷ clause) l (inl any) = elim (any-cases (IsTrueLiteral valu
 ]
 cases-off value (m ∷ clause) l (inr here) = any-later (IsTrueLiteral value) m (clause ++ l ∷ []) (cases-off value clause l (inr here))
 
-selected-at : (value : ℕ → Bool) (last : ℕ) (clauses : List (List Literal)) → IsModel value (selected last clauses) → (place : ℕ) (clause : List Literal)
+pub selected-at : (value : ℕ → Bool) (last : ℕ) (clauses : List (List Literal)) → IsModel value (selected last clauses) → (place : ℕ) (clause : List Literal)
     → slice_get clauses place ≡ Some clause → TrueOrOff value last clause place
 unfolding selected
 selected-at value last [] model place clause is = cc
@@ -60,7 +62,7 @@ selected-at value last (c ∷ clauses) model (suc place) clause is =
     subst (λ (n : ℕ). MakesTrue value clause ⊎ (value n ≡ false)) next
     (selected-at value (last + 1) clauses (All-tail (MakesTrue value) (c ++ literal (last + 1) false ∷ []) (selected (last + 1) clauses) model) place clause is)
 
-selected-model : (value : ℕ → Bool) (last : ℕ) (clauses : List (List Literal))
+pub selected-model : (value : ℕ → Bool) (last : ℕ) (clauses : List (List Literal))
     → ((place : ℕ) (clause : List Literal) → slice_get clauses place ≡ Some clause → TrueOrOff value last clause place) → IsModel value (selected last clauses)
 unfolding selected
 selected-model value last [] each = All-nil (MakesTrue value)

@@ -1,2 +1,12 @@
 pub mod SelectedLemmas
 pub mod ExplainLaws
+pub mod ListedLemmas
+pub mod AskedLemmas
+pub mod NotesLemmas
+pub mod MeaningLemmas
+pub mod WholeLemmas
+pub mod ConeLemmas
+pub mod AcceptedLemmas
+pub mod FileLemmas
+pub mod RelationLists
+pub mod OneExplanation

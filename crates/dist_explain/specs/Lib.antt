@@ -2,3 +2,11 @@ pub mod Explanation
 pub mod Selectors
 pub mod SelectedPrivate
 pub mod Examples
+pub mod Answered
+pub mod ListedPrivate
+pub mod AskedPrivate
+pub mod NotesPrivate
+pub mod ExplanationFiles
+pub mod Verdicts
+pub mod RelationList
+pub mod RelationListPrivate

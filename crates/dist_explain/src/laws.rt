@@ -1,13 +1,24 @@
-//! What clauses with selectors mean. The function does nothing.
-ghost use Rattle.std.specs.Prelude.{Bool, List, false};
+//! What clauses with selectors mean, and what an accepted file proves. The functions do nothing.
+ghost use Rattle.std.specs.Prelude.{◌≡◌, Bool, List, Result, false, ℕ};
+ghost use Rattle.dist_outside.specs.declared.limits.Limits.{Limits};
+ghost use Rattle.dist_outside.specs.declared.trouble.WorkError.{WorkError};
 ghost use Rattle.dist_clause.specs.Formula.{Literal};
 ghost use Rattle.dist_repo.specs.Order.{IsInOrder};
 ghost use Rattle.dist_repo.specs.PackageList.{PackageList};
 ghost use Rattle.dist_now.specs.PresentClauses.{ArePresentClauses, Demand};
 ghost use Rattle.dist_now.specs.Relations.{AreRelations};
 ghost use Rattle.dist_explain.specs.Selectors.{AreExplainedByNoModel, AreModelsBySelectors};
+ghost use Rattle.dist_explain.specs.Verdicts.{AcceptedMeans, ExplanationAnswers, IsExplanation, IsOfText};
+ghost use Rattle.dist_explain.specs.declared.explained.Explained.{Explained};
+ghost use Rattle.dist_explain.specs.declared.verdict.ExplainHeader.{ExplainHeader};
+ghost use Rattle.dist_explain.specs.declared.verdict.ExplainVerdict.{ExplainVerdict};
 
-use dist_now::{demands_tell_health, relations_have_clauses};
+use dist_cert::forms_are_clear;
+use dist_derive::{lines_keep_models, new_lines_are_few};
+use dist_now::{
+    demands_tell_health, models_are_installations, present_clauses_are_one, relations_have_clauses,
+};
+use dist_subject::first_numbers_are_one;
 
 /// With the selectors of some relations a package can't be true exactly where they explain it.
 pub fn selectors_explain()
@@ -18,4 +29,28 @@ pub fn selectors_explain()
 {
     demands_tell_health();
     relations_have_clauses();
+}
+
+/// What an accepted file says of its package is true, whoever wrote it.
+pub fn accepted_explanations_hold()
+    ensures { (r : PackageList) (limits : Limits) (text : List ℕ) (h : ExplainHeader) (explained : Explained) → IsInOrder r.packages
+        → IsExplanation r limits text h explained → AcceptedMeans r h explained }
+{
+    forms_are_clear();
+    lines_keep_models();
+    new_lines_are_few();
+    models_are_installations();
+    demands_tell_health();
+    relations_have_clauses();
+    selectors_explain();
+}
+
+/// A text has one answer, but for a fault of reading and want of memory.
+pub fn explanations_have_one_answer()
+    ensures { (r : PackageList) (limits : Limits) (text : List ℕ) (result other : Result ExplainVerdict WorkError) → IsInOrder r.packages
+        → ExplanationAnswers r limits text result → ExplanationAnswers r limits text other → IsOfText result → IsOfText other → other ≡ result }
+{
+    forms_are_clear();
+    present_clauses_are_one();
+    first_numbers_are_one();
 }

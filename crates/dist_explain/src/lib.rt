@@ -2,11 +2,24 @@
 //! needed.
 //!
 //! A relation is a clause of the present. Each clause gets a selector, a variable that makes it count, so that a question names
-//! the relations that it rests on, and a refutation needs no others.
+//! the relations that it rests on, and a refutation needs no others. A file of such questions, with their refutations and
+//! installations, is checked line by line; the last question of relations that it refutes is the explanation.
 #![tactic(auto)]
 
+mod asked;
+mod explained;
+mod explaining;
+mod file;
 mod laws;
+mod listed;
+mod notes;
+mod relations;
 mod selected;
+mod verdict;
 
-pub use laws::selectors_explain;
+pub use explained::Explained;
+pub use file::check_explained;
+pub use laws::{accepted_explanations_hold, explanations_have_one_answer, selectors_explain};
+pub use relations::{Relation, relations_of};
 pub use selected::with_selectors;
+pub use verdict::{ExplainHeader, ExplainVerdict};

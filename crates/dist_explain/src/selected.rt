@@ -4,6 +4,7 @@ ghost use Rattle.dist_base.specs.Answers.{IsExactly};
 ghost use Rattle.dist_base.specs.declared.TheConstants.{MAX_LITERALS, MAX_VARIABLES};
 ghost use Rattle.dist_clause.specs.ClauseList.{clause_at};
 ghost use Rattle.dist_clause.specs.Formula.{literal};
+ghost use Rattle.dist_judge.specs.Causes.{IsLarge};
 ghost use Rattle.dist_outside.specs.declared.trouble.What.{What};
 ghost use Rattle.dist_outside.specs.declared.trouble.WorkError.TheVariants.{NoMemory, TooLarge};
 ghost use Rattle.dist_explain.specs.SelectedPrivate.{IsFront, IsFullAt};
@@ -77,6 +78,7 @@ pub fn with_selectors(
     requires literals { limits.now.literals ≤ MAX_LITERALS }
     ensures ok { IfOk result (IsSelectedSet limits.now clauses.now) }
     ensures exact { (what : What) → IsExactly NoMemory result (TooLarge what) (PassesSelected limits.now clauses.now what) }
+    ensures cause { IfErr result (IsLarge (PassesSelected limits.now clauses.now)) }
 {
     let count = clauses.len();
     let variables = clauses.variables() + count;

@@ -13,3 +13,4 @@ pub mod RowLemmas
 pub mod PlaceLemmas
 pub mod ReportLaws
 pub mod BrokenLemmas
+pub mod ExplainedLemmas

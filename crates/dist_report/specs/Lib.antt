@@ -16,3 +16,4 @@ pub mod Examples
 pub mod StrongExamples
 pub mod OutdatedExamples
 pub mod ChallengedExamples
+pub mod ExplainedText

@@ -7,6 +7,7 @@ mod challenged_report;
 mod claim_parts;
 mod class_table;
 mod classes_report;
+mod explained_lines;
 mod health_line;
 mod impact;
 mod laws;
@@ -18,6 +19,7 @@ mod room;
 mod strong_report;
 
 pub use classes_report::classes_text;
+pub use explained_lines::explained_text;
 pub use health_line::health_text;
 pub use laws::{classes_texts_are_one, reports_are_one, strings_are_plain};
 pub use lines::print_label;

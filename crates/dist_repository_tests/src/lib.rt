@@ -1,5 +1,5 @@
 //! What is answered of small repositories: matches, conflicts, providers, health, the clauses of the present and their
-//! selectors, clusters and classes. Tests alone.
+//! selectors, files of explanations, clusters and classes. Tests alone.
 #![tactic(auto)]
 
 #[cfg(test)]
@@ -8,6 +8,8 @@ mod builder;
 mod classes;
 #[cfg(test)]
 mod clusters;
+#[cfg(test)]
+mod explanations;
 #[cfg(test)]
 mod health;
 #[cfg(test)]

@@ -1,0 +1,99 @@
+//! The files of explanations, as files whose lines answer one question.
+ghost use Rattle.std.specs.Prelude.{◌≡◌, ◌↔◌, IsTrue};
+ghost use Rattle.dist_repo.specs.Size.{IsWithinSize};
+ghost use Rattle.dist_subject.specs.Limited.{AreStated};
+ghost use Rattle.dist_explain.specs.ExplanationFiles.{AreNumbersFor, asked_by, explanation_files, number_at};
+ghost use Rattle.dist_explain.specs.NotesPrivate.{AreNotesOf};
+
+use crate::asked::Asked;
+use crate::notes::Notes;
+use crate::selected::with_selectors;
+use dist_clause::ClauseSet;
+use dist_findings::{Answering, Finding};
+use dist_outside::{Limits, WorkError};
+use dist_repo::Repository;
+use dist_subject::present_inputs;
+use std::alloc::{AllocError, Global};
+
+/// The number at a place of a first line, or 0.
+pub(crate) fn number_at(numbers: &[u32], place: usize) -> u32
+    ensures { result ≡ number_at place numbers.now }
+{
+    match numbers.get(place) {
+        Some(number) => *number,
+        None => 0,
+    }
+}
+
+/// What a first line speaks of.
+fn asked_by(numbers: &[u32]) -> Asked
+    ensures { result ≡ asked_by numbers.now }
+{
+    Asked {
+        packages: number_at(numbers, 1),
+        relations: number_at(numbers, 2),
+        number: number_at(numbers, 3),
+    }
+}
+
+/// Whether a first line has the numbers for so many packages and variables.
+fn are_numbers_for(numbers: &[u32], packages: u32, variables: u32) -> bool
+    ensures { IsTrue result ↔ AreNumbersFor packages variables numbers.now }
+{
+    let asked = asked_by(numbers);
+    asked.packages == packages
+        && u64::from(asked.packages) + u64::from(asked.relations) == u64::from(variables)
+        && 1 <= asked.number
+        && asked.number <= packages
+}
+
+/// The files of explanations over a repository.
+#[derive(Drop)]
+pub(crate) struct Explaining<'a> {
+    pub(crate) repo: &'a Repository,
+}
+
+impl<'a> Answering for Explaining<'a> {
+    type Notes = Notes;
+
+    ghost file = { λ e. explanation_files e.repo.now };
+
+    ghost noted = { λ e numbers found notes. AreNotesOf (asked_by numbers) found notes };
+
+    ghost ready = { λ e limits. IsWithinSize e.repo.now × AreStated limits };
+
+    fn front(&self) -> &[u8] {
+        b"distfuture-explain 1"
+    }
+
+    fn count(&self) -> usize {
+        4
+    }
+
+    fn inputs(
+        &self,
+        alloc: Global,
+        numbers: &[u32],
+        limits: &Limits,
+    ) -> Result<Option<ClauseSet>, WorkError> {
+        let plain = present_inputs(alloc, self.repo, false, limits)?;
+        let set = with_selectors(alloc, &plain, limits)?;
+        if are_numbers_for(numbers, self.repo.len(), set.variables()) {
+            Ok(Some(set))
+        } else {
+            Ok(None)
+        }
+    }
+
+    fn begin(&self, alloc: Global, numbers: &[u32]) -> Result<Notes, AllocError> {
+        Ok(Notes::new(alloc, asked_by(numbers)))
+    }
+
+    fn note(&self, notes: &mut Notes, finding: Finding) -> Result<(), AllocError> {
+        notes.note(finding)
+    }
+
+    fn is_decided(&self, notes: &Notes) -> bool {
+        notes.is_decided()
+    }
+}
