@@ -1,9 +1,8 @@
 //! Worked rows of `check`: certificates that are accepted, refused, too large, or not read.
 use dist_app::Status;
 use dist_outside::What;
-use dist_samples::LIBRARY;
 use dist_top_rows::check_rows::{BAD_LINE, MISSING, REFUSED, TEN};
-use dist_top_rows::{Failing, NOTHING, Row, Table, first_wrong};
+use dist_top_rows::{Failing, NOTHING, Row, Table, check_rows, first_wrong};
 use std::test::Fail;
 
 // Package a, which depends on b or c, and b, which depends on c, and c and d. One derived line leaves a undecided.
@@ -44,33 +43,6 @@ packages: 2
 outdated:
   - \"a=1\"
 undecided: []
-",
-    ..TEN
-};
-
-// Later versions of a library at and above a bound break the program that needs it below.
-const CHALLENGED: Row = Row {
-    packages: LIBRARY,
-    cert: Some(
-        "distfuture-certificate 1 challenged plain 10000 2 11 16\nq 1 2\nm 1 2\nc 1 1 0 0\nq 1 3\nm 1 2 3\nq 3 4\nm 3 4 5\nq 3 6\nf 6 12 5 1\nq 3 8\nf 8 12 5 2\nc 2 2 3 0 1 2 1 3 0\ne\n",
-    ),
-    out: "report: \"challenged\"
-limit: 10000
-packages: 2
-uninstallable: []
-challenged:
-  - cluster: \"libx=1\"
-    class: \"= 2\"
-    example: \"2\"
-    breaks:
-      - \"p=1\"
-  - cluster: \"libx=1\"
-    class: \">> 2\"
-    example: \"2-0A\"
-    breaks:
-      - \"p=1\"
-undecided: []
-undecided_classes: []
 ",
     ..TEN
 };
@@ -119,7 +91,12 @@ undecided_classes:
     ..MAYBE_OUTDATED
 };
 
-const ON_FUTURES: [Row; 4] = [OUTDATED, CHALLENGED, MAYBE_OUTDATED, MAYBE_CHALLENGED];
+const ON_FUTURES: [Row; 4] = [
+    OUTDATED,
+    check_rows::CHALLENGED,
+    MAYBE_OUTDATED,
+    MAYBE_CHALLENGED,
+];
 
 const REFUSALS: [Row; 8] = [
     BAD_LINE,

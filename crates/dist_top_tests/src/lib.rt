@@ -10,6 +10,8 @@ mod classes_rows;
 #[cfg(test)]
 mod essential_rows;
 #[cfg(test)]
+mod fronts;
+#[cfg(test)]
 mod futures_rows;
 #[cfg(test)]
 mod health_rows;
