@@ -74,7 +74,6 @@ fn is_after(row: &Row, held: Option<&[u8]>) -> bool {
         (After::AsBefore, _) => is_held(held, row.cert),
         (After::Is(text), _) => is_held(held, Some(text)),
         (After::Begins(front), Some(bytes)) => bytes.starts_with(front.as_bytes()),
-        (After::FrontOf(text), Some(bytes)) => text.as_bytes().starts_with(bytes),
         (_, None) => false,
     }
 }
