@@ -1,8 +1,8 @@
 -- A chain of stages, from its first one and the rest, where the desk was only read.
-use Rattle.std.proofs.Common.{List, ℕ, inl, inr, Option, Result, Ok, Err, IfErr, IfOk, subst}
+use Rattle.std.proofs.Common.{List, ℕ, inl, inr, Option, subst}
 use Rattle.dist_outside.specs.Files.{Files}
 use Rattle.dist_outside.specs.DeskView.{DeskView, OnlyReads}
-use Rattle.dist_app.specs.DuePrivate.{IsDue, IsPartGivenUp}
+use Rattle.dist_app.specs.DuePrivate.{IsDue}
 use Rattle.dist_app.specs.Stages.{Ending, Step, Goes, Ends, Then, answered}
 use Rattle.dist_app.specs.declared.refusal.Refusal.{Refusal}
 use Rattle.dist_app.specs.declared.status.Status.{Status}

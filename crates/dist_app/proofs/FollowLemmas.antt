@@ -1,7 +1,7 @@
 -- What is told of a journal that was followed, and that what is broken stays so.
-use Rattle.std.proofs.Common.{◌≡◌, ◌<◌, ℕ, Bool, List, [], length, get_or, Option, Some, refl, sym, ap, ◌∙◌, subst}
+use Rattle.std.proofs.Common.{◌≡◌, ◌≢◌, ◌<◌, ℕ, Bool, inl, inr, arith, List, [], length, get_or, Option, Some, refl, sym, ap, ◌∙◌, subst}
 use Rattle.std.proofs.Common.{slice_get}
-use Rattle.std.specs.Prelude.{Contains, IsSomeAnd}
+use Rattle.std.specs.Prelude.{Contains}
 use Rattle.std.specs.Option.{option_map_or}
 use Rattle.std.specs.declared.cmp.Ordering.TheVariants.{Equal}
 use Rattle.std.proofs.lemmas.List.Elements.{All-contains}
@@ -10,7 +10,6 @@ use Rattle.dist_outside.specs.Files.{Files}
 use Rattle.dist_base.specs.ListLaws.{any-more, at-has, contains-at, found-at, here-at}
 use Rattle.dist_version.specs.Order.{version_cmp}
 use Rattle.dist_cluster.specs.Partition.{least}
-use Rattle.dist_repo.specs.PackageList.{PackageList}
 use Rattle.dist_repo.specs.declared.package.Package.{Package}
 use Rattle.dist_classes.specs.VersionOrderLaws.{alike-right}
 use Rattle.dist_space.specs.ClusterLaws.{in-package}
@@ -23,11 +22,24 @@ use Rattle.dist_cert.specs.declared.records.Claim.{Claim}
 use Rattle.dist_cert.specs.declared.records.Claim.TheVariants as claims
 use Rattle.dist_check.specs.Means.{MeansChallenged, SaysChallenged}
 use Rattle.dist_future.specs.Pairs.{IsOfPair}
-use Rattle.dist_journal.specs.Broken.{AreBroken, IsBroken, Lists}
+use Rattle.dist_journal.specs.Broken.{IsBroken, Lists}
 use Rattle.dist_journal.specs.declared.broken_list.Broken.{Broken}
-use Rattle.dist_history.specs.FollowText.{held_version, version_of_name}
+use Rattle.dist_history.specs.FollowText.{follow_text, held_version, version_of_name}
 use Rattle.dist_history.specs.FollowTextLaws.{version-held}
-use Rattle.dist_app.specs.Follow.{StaysBroken}
+use Rattle.dist_archive.specs.Archive.{ArchiveView}
+use Rattle.dist_cert.specs.declared.records.CertKind.{CertKind}
+use Rattle.dist_cert.specs.declared.records.CertKind.TheVariants.{Strong, Outdated, Challenged}
+use Rattle.dist_journal.specs.Follow.{IsFollowed, IsStopped}
+use Rattle.dist_journal.specs.declared.fault.FollowError.{FollowError}
+use Rattle.dist_journal.specs.declared.fault.FollowError.TheVariants.{Bad, TooMany, NoMemory}
+use Rattle.dist_app.specs.DuePrivate.{IsPartGivenUp}
+use Rattle.dist_app.specs.Follow.{AreToldBroken, JournalStage, StaysBroken, TellsFollowed}
+use Rattle.dist_app.specs.FollowPrivate.{IsBacked, IsRefusalOf, pair_of}
+use Rattle.dist_app.specs.Stages.{Ends, answered, refused}
+use Rattle.dist_app.specs.declared.accepting.Accepted.{Accepted}
+use Rattle.dist_app.specs.declared.refusal.Refusal.{Refusal}
+use Rattle.dist_app.specs.declared.status.Status.{Status}
+use Rattle.dist_app.specs.declared.status.Status.TheVariants.{Done}
 
 -- the laws of archives: two packages of a cluster are in one, and what challenges a package breaks it after all steps
 abbrev pub AreWhole : Type 0
@@ -115,3 +127,69 @@ module _ (whole : AreWhole) (after : HoldAfterSteps) (s : SpaceView) (space : Is
       any-more (λ (n : Package). (n.name ≡ q.name) × (version_cmp n.version (held_version s archive broken.cluster) ≡ Equal))
       (λ (n : Package). (n.name ≡ q.name) × (version_cmp n.version version ≡ Equal))
       (λ n both. (both.0, sym (alike-right (held_version s archive broken.cluster) version n.version equal) ∙ both.1)) later (holds q inside))
+
+-- ---- what the command tells
+
+nothing-in : (broken : Broken) → ¬ Contains [] broken
+nothing-in broken there = omega (arith, there.1)
+
+are_broken : (kind : CertKind) (s : SpaceView) (archive : List Package) (made : List Claim) (list : List Broken) (broken : Broken)
+    → AreToldBroken kind s archive made list → Contains list broken → (kind ≡ Challenged) × IsBroken s archive made broken
+are_broken Strong s archive made list broken told has = absurd (nothing-in broken (subst (λ (l : List Broken). Contains l broken) told has))
+are_broken Outdated s archive made list broken told has = absurd (nothing-in broken (subst (λ (l : List Broken). Contains l broken) told has))
+are_broken Challenged s archive made list broken told has = (refl, (told.exact broken).0 has)
+
+-- which packages are told, and the text of it
+abbrev pub Told : Accepted → SpaceView → (archive : List Package) → (count : ℕ) → (text : List ℕ) → Type 0
+Told accepted s archive count text = (list : List Broken) × AreToldBroken accepted.header.kind s archive accepted.claims list
+    × (text ≡ follow_text s archive count list)
+
+module _ (whole : AreWhole) (after : HoldAfterSteps) (space : SpaceView) (is_space : IsSpace space) (accepted : Accepted) (backed : IsBacked space accepted)
+    (stanzas : ℕ) (journal : List ℕ) (count : ℕ) where
+  -- what an archive that was followed to the end of a journal tells
+  tells-here : (archive : List Package) → IsFuture space.repository archive
+      → IsFollowed space stanzas journal space.repository.packages archive count → (text : List ℕ) → Told accepted space archive count text
+      → (files : Option Files) → TellsFollowed files stanzas space (pair_of accepted) journal (answered files Done text)
+  tells-here archive future followed text (list, told, is) files =
+      record {
+        archive = archive;
+        count = count;
+        followed = followed;
+        list = list;
+        are_told = told;
+        stay = λ broken has.
+            let both = are_broken accepted.header.kind space archive accepted.claims list broken told has in
+            stays whole after space is_space archive future accepted.claims (backed both.0) broken both.1;
+        is = ap (answered files Done) is;
+      }
+
+  pub tells : (started archive : ArchiveView) → started ≡ record { space = space; packages = space.repository.packages } → archive.space ≡ started.space
+      → IsFuture archive.space.repository archive.packages
+      → IsFollowed started.space stanzas journal started.packages archive.packages count → (status : Status) (text : List ℕ) → status ≡ Done
+      → Told accepted archive.space archive.packages count text
+      → (files : Option Files) → TellsFollowed files stanzas space (pair_of accepted) journal (answered files status text)
+  tells started archive is same future followed status text done told files =
+      let own : archive.space ≡ space = same ∙ ap (λ (a : ArchiveView). a.space) is in
+      subst (λ (s : Status). TellsFollowed files stanzas space (pair_of accepted) journal (answered files s text)) (sym done)
+      (tells-here archive.packages (subst (λ (s : SpaceView). IsFuture s.repository archive.packages) own future)
+      (subst (λ (a : ArchiveView). IsFollowed a.space stanzas journal a.packages archive.packages count) is followed) text
+      (subst (λ (s : SpaceView). Told accepted s archive.packages count text) own told) files)
+
+-- ---- why it gives up
+
+module _ (files : Option Files) (stanzas : ℕ) (space : SpaceView) (journal : List ℕ) (left : List Package) where
+  stopped-part : (error : FollowError) (why : Refusal)
+      → (error ≢ NoMemory → IsStopped space stanzas journal space.repository.packages left error) → IsRefusalOf error why
+      → IsPartGivenUp (λ ending. JournalStage files stanzas space journal (Ends ending)) files why
+  stopped-part (Bad line fault) why stopped is =
+      inr (Bad line fault, (left, stopped (λ (same : Bad line fault ≡ NoMemory). cc)), ap (refused files) is)
+  stopped-part TooMany why stopped is = inr (TooMany, (left, stopped (λ (same : TooMany ≡ NoMemory). cc)), ap (refused files) is)
+  stopped-part NoMemory why stopped is = inl is
+
+pub gives-up : (space : SpaceView) (stanzas : ℕ) (journal : List ℕ) (started archive : ArchiveView)
+    → started ≡ record { space = space; packages = space.repository.packages } → (error : FollowError) (why : Refusal)
+    → (error ≢ NoMemory → IsStopped started.space stanzas journal started.packages archive.packages error) → IsRefusalOf error why
+    → (files : Option Files) → IsPartGivenUp (λ ending. JournalStage files stanzas space journal (Ends ending)) files why
+gives-up space stanzas journal started archive is error why stopped refusal files =
+    stopped-part files stanzas space journal archive.packages error why
+    (subst (λ (a : ArchiveView). error ≢ NoMemory → IsStopped a.space stanzas journal a.packages archive.packages error) is stopped) refusal

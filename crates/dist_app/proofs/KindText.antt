@@ -42,3 +42,10 @@ pub fault_line : (line : ℕ) (text rest : List ℕ) → text ≡ decimal line
     → (codes "bad packages at line " ++ (text ++ codes ": ")) ++ rest ≡ codes "bad packages at line " ++ (decimal line ++ (codes ": " ++ rest))
 fault_line line text rest e =
     ap (λ (t : List ℕ). codes "bad packages at line " ++ t) (append_assoc text (codes ": ") rest ∙ ap (λ (t : List ℕ). t ++ (codes ": " ++ rest)) e)
+
+-- the line of a journal's fault, and the name of that
+pub journal_line : (line : ℕ) (text name rest : List ℕ) → text ≡ decimal line → name ≡ rest
+    → codes "bad journal at line " ++ (text ++ (codes ": " ++ (name ++ []))) ≡ codes "bad journal at line " ++ (decimal line ++ (codes ": " ++ rest))
+journal_line line text name rest e n =
+    ap (λ (t : List ℕ). codes "bad journal at line " ++ (t ++ (codes ": " ++ (name ++ [])))) e
+    ∙ ap (λ (t : List ℕ). codes "bad journal at line " ++ (decimal line ++ (codes ": " ++ t))) (append-nil name ∙ n)

@@ -2,7 +2,6 @@
 use Rattle.std.specs.Prelude.{◌≡◌, List}
 use Rattle.dist_outside.specs.declared.trouble.What.TheVariants.{Stanzas}
 use Rattle.dist_space.specs.Space.{SpaceView}
-use Rattle.dist_cert.specs.declared.records.CertKind.{CertKind}
 use Rattle.dist_cert.specs.declared.records.CertKind.TheVariants.{Challenged}
 use Rattle.dist_cert.specs.declared.records.Claim.{Claim}
 use Rattle.dist_cert.specs.declared.records.Header.{Header}

@@ -13,7 +13,7 @@ use crate::accepting::Accepted;
 use crate::answer::Answer;
 use crate::refusal::Refusal;
 use crate::status::Status;
-use dist_archive::{Archive, challenges_hold_after_steps, start};
+use dist_archive::{Archive, challenges_hold_after_steps, clusters_are_whole, start};
 use dist_cert::{CertKind, Claims};
 use dist_history::{counts_text, write_broken_list};
 use dist_journal::{FollowError, broken, follow};
@@ -91,7 +91,9 @@ pub(crate) fn make_steps(
     ensures given_up { IfErr result (λ refusal. (files : Option Files)
         → IsPartGivenUp (λ ending. JournalStage files stanzas space journal.now (Ends ending)) files refusal) }
 {
-    // What this call tells is that what is broken stays so.
+    // What these calls tell is that it is a space, that its clusters are whole, and that what is broken stays so.
+    let _variables = space.variables();
+    clusters_are_whole();
     challenges_hold_after_steps();
     let Ok(mut archive) = start(alloc, space) else {
         return Err(Refusal::NoMemory);

@@ -1,7 +1,7 @@
 -- How the check of a text begins.
-use Rattle.std.proofs.Common.{◌≡◌, inl, inr, ⊎_elim, ℕ, List, [], ◌∷◌, ◌++◌, Option, Some, None, Ok, Err, length, refl, sym, ap, subst, ◌∙◌, arith}
+use Rattle.std.proofs.Common.{◌≡◌, inl, ⊎_elim, ℕ, List, [], ◌∷◌, ◌++◌, Option, Some, None, Ok, Err, length, sym, ap, subst, ◌∙◌, arith}
 use Rattle.dist_base.specs.Ascii.{line_feed}
-use Rattle.dist_outside.specs.DeskView.{DeskView, OnlyReads}
+use Rattle.dist_outside.specs.DeskView.{DeskView}
 use Rattle.dist_outside.specs.declared.limits.Limits.{Limits}
 use Rattle.dist_outside.specs.declared.trouble.What.{What}
 use Rattle.dist_outside.specs.declared.trouble.What.TheVariants.{Variables, Clauses, Literals, Certificate}
@@ -15,7 +15,6 @@ use Rattle.dist_cert.specs.FirstLine.{FirstAnswers, FirstCause, FirstOfSome, Giv
 use Rattle.dist_clause.specs.Formula.{Literal}
 use Rattle.dist_cert.specs.GroupLaws.{none-first}
 use Rattle.dist_cert.specs.Reading.{KeepsLimits, PassesWhole, ReaderView, WhereTold}
-use Rattle.dist_judge.specs.Causes.{TextCause}
 use Rattle.dist_judge.specs.ClearKindLaws.{IsClear}
 use Rattle.dist_judge.specs.FileKind.{rules_of}
 use Rattle.dist_judge.specs.HeadingLaws.{IsHeadingFault, heading_refused, heading_unfit, starts_faultless}
@@ -28,7 +27,6 @@ use Rattle.dist_findings.specs.BegunPrivate.{BeginFails, IsBegun, IsUnfit}
 use Rattle.dist_findings.specs.CheckedPrivate.{IsChecked}
 use Rattle.dist_findings.specs.FindingLaws.{open_after}
 use Rattle.dist_findings.specs.Findings.{findings_behind}
-use Rattle.dist_findings.specs.Start.{IsLargeInput}
 use Rattle.dist_findings.specs.declared.finding.Finding.{Finding}
 use Rattle.std.proofs.lemmas.List.{append-nil}
 

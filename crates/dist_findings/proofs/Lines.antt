@@ -25,9 +25,9 @@ use Rattle.dist_judge.specs.ReadingLaws as reading
 use Rattle.dist_check_state.specs.LinesAtLaws.{lines-kept}
 use Rattle.dist_findings.specs.AnswerFiles.{AnswerFile, files_of, limit_of}
 use Rattle.dist_findings.specs.Answers.{IsAnswered}
-use Rattle.dist_findings.specs.AskingPrivate.{AskingView, StopsAsked, StopsAt, TakesAsked, TellsAsked, TurnsInto, as_list, assumed, behind}
+use Rattle.dist_findings.specs.AskingPrivate.{AskingView, StopsAsked, StopsAt, TakesAsked, TellsAsked, as_list, assumed}
 use Rattle.dist_findings.specs.CheckedPrivate.{IsChecked}
-use Rattle.dist_findings.specs.FindingLaws.{findings_push, open_after, open_push}
+use Rattle.dist_findings.specs.FindingLaws.{findings_push, open_push}
 use Rattle.dist_findings.specs.Findings.{findings, found_at, open_behind}
 use Rattle.dist_findings.specs.declared.finding.Finding.{Finding}
 use Rattle.dist_findings.proofs.Steps.{IsKept, assumed-behind, kept-behind, limits-behind}

@@ -1,18 +1,16 @@
 -- The verdict on the next line of a file without claims, by what is kept of those before it.
-use Rattle.std.proofs.Common.{◌≡◌, ◌≢◌, ◌↔◌, ℕ, ◌<◌, Bool, true, false, List, [], ◌∷◌, Option, Some, None, refl, sym, ap, subst, ◌∙◌, arith}
+use Rattle.std.proofs.Common.{◌≡◌, ◌↔◌, ℕ, ◌<◌, Bool, true, false, List, [], Option, Some, None, refl, sym, subst, ◌∙◌, arith}
 use Rattle.std.specs.List.{Any}
 use Rattle.std.proofs.lemmas.Bool.{true≢false, false≢true}
-use Rattle.dist_clause.specs.Formula.{Literal, IsModel}
+use Rattle.dist_clause.specs.Formula.{Literal}
 use Rattle.dist_cert.specs.declared.faults.CertCause.{CertCause}
 use Rattle.dist_cert.specs.declared.faults.CertCause.TheVariants as causes
-use Rattle.dist_cert.specs.declared.records.CertKind.TheVariants as kinds
 use Rattle.dist_cert.specs.declared.records.CertRecord.{CertRecord}
 use Rattle.dist_cert.specs.declared.records.CertRecord.TheVariants as lines
 use Rattle.dist_cert.specs.ByRecordsLaws.{map_first}
 use Rattle.dist_cert.specs.FileLines.{IsFirstOf, in_order}
 use Rattle.dist_cert.specs.Groups.{is_claim}
 use Rattle.dist_cert.specs.LineRules.{HasRecordFault, IsIncomplete}
-use Rattle.dist_cert.specs.Rising.{is_among}
 use Rattle.dist_check_state.specs.FirstFaultLaws.{first_of, rank}
 use Rattle.dist_check_state.specs.LinesAt.{AreFuturesBy, IsLogOf, IsQuestionOf, JudgesMembers}
 use Rattle.dist_check_state.specs.State.{TellsUndecided}

@@ -1,11 +1,9 @@
 -- The lines of files whose lines answer one question can be told apart.
-use Rattle.std.proofs.Common.{◌≡◌, ℕ, List, sym, ◌∙◌}
-use Rattle.dist_cert.specs.declared.faults.CertCause.TheVariants as causes
-use Rattle.dist_cert.specs.declared.records.CertRecord.{CertRecord}
+use Rattle.std.proofs.Common.{sym, ◌∙◌}
 use Rattle.dist_cert.specs.ClearFormsLaws.{FormsAreClear, clear_records}
 use Rattle.dist_cert.specs.FileLines.{IsOneLine}
 use Rattle.dist_judge.specs.ClearKindLaws.{IsClear}
-use Rattle.dist_findings.specs.AnswerFiles.{AnswerFile, HasHeading, files_of}
+use Rattle.dist_findings.specs.AnswerFiles.{AnswerFile, files_of}
 
 pub clear_files : FormsAreClear → (file : AnswerFile) → IsOneLine file.front → IsClear (files_of file)
 clear_files clear file one = record {

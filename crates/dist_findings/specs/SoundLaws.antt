@@ -1,10 +1,10 @@
 -- What the findings of a file without a fault prove, of the clauses that its lines are judged by.
-use Rattle.std.proofs.Common.{◌≡◌, ◌⊎◌, ⊎_elim, inl, inr, ℕ, ◌<◌, ◌≤◌, ◌↔◌, ◌^◌, Bool, true, false, List, [], ◌∷◌, ◌++◌}
+use Rattle.std.proofs.Common.{◌≡◌, inl, inr, ℕ, ◌≤◌, ◌↔◌, ◌^◌, Bool, true, false, List, [], ◌∷◌, ◌++◌}
 use Rattle.std.proofs.Common.{Option, Some, None, length, map, take, refl, sym, subst, arith, length-append}
 use Rattle.std.proofs.Common.{append_assoc, ◌∙◌}
-use Rattle.std.specs.List.{All, Any, Contains}
+use Rattle.std.specs.List.{All, Contains}
 use Rattle.std.proofs.lemmas.Bool.{cases_Bool, true≢false, cases_lt}
-use Rattle.std.proofs.lemmas.List.{append-nil, take_at}
+use Rattle.std.proofs.lemmas.List.{take_at}
 use Rattle.std.proofs.lemmas.List.Elements.{All-append, All-cons, All-head, All-nil, All-tail}
 use Rattle.dist_base.specs.ListLaws.{any-cases}
 use Rattle.dist_clause.specs.Formula.{Literal, IsModel, IsTrueLiteral, MakesTrue, negation}

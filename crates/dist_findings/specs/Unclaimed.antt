@@ -1,6 +1,6 @@
 -- Files without claims: their lines are judged as those of a certificate by some clauses, but that any claim is wrong,
 -- and the end comes once an answer is decided.
-use Rattle.std.specs.Prelude.{◌≡◌, ℕ, Bool, true, false, List, []}
+use Rattle.std.specs.Prelude.{◌≡◌, ℕ, true, false, List, []}
 use Rattle.dist_clause.specs.Formula.{Literal, IsModel}
 use Rattle.dist_cert.specs.declared.faults.CertCause.{CertCause}
 use Rattle.dist_cert.specs.declared.faults.CertCause.TheVariants.{WrongClaim, Incomplete}

@@ -1,8 +1,8 @@
 //! What moved clusters break.
-use crate::journals::{answer, archive_of};
+use crate::journals::{archive_of, is_followed};
 use dist_archive::Archive;
 use dist_cert::{Claim, Claims, Pairs};
-use dist_journal::{Broken, broken};
+use dist_journal::{Broken, BrokenList, broken};
 use std::alloc::Global;
 
 /// Three clusters: a and b, c, and e.
@@ -69,55 +69,83 @@ const ROWS: [Row; 7] = [
     ),
 ];
 
+/// Adds pairs.
+fn add_pairs(all: &mut Pairs, pairs: &[(u32, u32)]) -> Option<()> {
+    for pair in pairs {
+        all.push(*pair).ok()?;
+    }
+    Some(())
+}
+
 /// A claim with these pairs.
 fn claim_of(alloc: Global, pairs: &[(u32, u32)]) -> Option<Claim> {
     let mut by = Pairs::new(alloc);
-    for pair in pairs {
-        by.push(*pair).ok()?;
+    if add_pairs(&mut by, pairs).is_some() {
+        Some(Claim::Challenged(by, Pairs::new(alloc)))
+    } else {
+        drop(by);
+        None
     }
-    Some(Claim::Challenged(by, Pairs::new(alloc)))
 }
 
-/// Claims with these pairs.
-fn claims_of(alloc: Global, all: &[&[(u32, u32)]]) -> Option<Claims> {
-    let mut claims = Claims::new(alloc);
+/// Adds claims with these pairs.
+fn add_claims(alloc: Global, claims: &mut Claims, all: &[&[(u32, u32)]]) -> Option<()> {
     for pairs in all {
         claims.push(claim_of(alloc, pairs)?).ok()?;
     }
-    Some(claims)
+    Some(())
+}
+
+/// Whether a list has exactly these packages, each by its cluster.
+fn is_list(list: &BrokenList, wanted: &[(u32, u32)]) -> bool {
+    if list.len() != wanted.len() {
+        return false;
+    }
+    for place in 0..wanted.len() {
+        let (package_, cluster) = wanted[place];
+        if place >= list.len() || *list.get(place) != (Broken { package_, cluster }) {
+            return false;
+        }
+    }
+    true
 }
 
 /// Whether exactly these packages are broken, each by its cluster.
-fn are_broken(
-    alloc: Global,
-    archive: &Archive,
-    claims: &Claims,
-    wanted: &[(u32, u32)],
-) -> Option<bool> {
+fn are_broken(alloc: Global, archive: &Archive, claims: &Claims, wanted: &[(u32, u32)]) -> bool {
     if claims.len() != archive.space().package_count() as usize {
-        return None;
+        return false;
     }
-    let list = broken(alloc, archive, claims).ok()?;
-    if list.len() != wanted.len() {
-        return Some(false);
-    }
-    for place in 0..list.len() {
-        let (package_, cluster) = wanted[place];
-        if *list.get(place) != (Broken { package_, cluster }) {
-            return Some(false);
+    match broken(alloc, archive, claims) {
+        Ok(list) => {
+            let so = is_list(&list, wanted);
+            drop(list);
+            so
         }
+        Err(_) => false,
     }
-    Some(true)
 }
 
-/// Whether a row's journal breaks what it tells.
-fn is_so(alloc: Global, row: &Row) -> Option<bool> {
-    let mut archive = archive_of(alloc, STANZAS)?;
-    if answer(alloc, &mut archive, row.1.as_bytes())?.is_err() {
-        return Some(false);
-    }
-    let claims = claims_of(alloc, row.2)?;
-    let so = are_broken(alloc, &archive, &claims, row.3);
+/// Whether these packages are broken by claims with these pairs.
+fn breaks(
+    alloc: Global,
+    archive: &Archive,
+    pairs: &[&[(u32, u32)]],
+    wanted: &[(u32, u32)],
+) -> bool {
+    let mut claims = Claims::new(alloc);
+    let so = add_claims(alloc, &mut claims, pairs).is_some()
+        && are_broken(alloc, archive, &claims, wanted);
+    drop(claims);
+    so
+}
+
+/// Whether a row's journal is followed, and breaks what it tells.
+fn is_so(alloc: Global, row: &Row) -> bool {
+    let Some(mut archive) = archive_of(alloc, STANZAS) else {
+        return false;
+    };
+    let so = is_followed(alloc, &mut archive, row.1.as_bytes())
+        && breaks(alloc, &archive, row.2, row.3);
     drop(archive);
     so
 }
@@ -125,6 +153,6 @@ fn is_so(alloc: Global, row: &Row) -> Option<bool> {
 #[test]
 fn moved_clusters_break_packages(rt: HostRuntime) {
     for row in &ROWS {
-        assert!(rt; is_so(rt.alloc(), row) == Some(true), "{}", row.0);
+        assert!(rt; is_so(rt.alloc(), row), "{}", row.0);
     }
 }

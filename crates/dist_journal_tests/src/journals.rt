@@ -5,27 +5,32 @@ ghost use Rattle.std.specs.Prelude.{◌<◌, ◌+◌, length};
 use dist_archive::{Archive, start};
 use dist_journal::{FollowError, follow};
 use dist_samples::repository;
-use dist_space::space_of;
+use dist_space::{Space, space_of};
 use std::alloc::Global;
 use std::process::Abort;
 
-/// What a row shows, the stanzas of the repository, the journal, the answer, and what is held after it: names and versions. A
-/// block may have two stanzas.
+/// What a row shows, the journal, the answer, and what is held after it: names and versions.
 pub(crate) type Row = (
-    &'static str,
     &'static str,
     &'static str,
     Result<u32, FollowError>,
     &'static [(&'static str, &'static str)],
 );
 
+/// The space of some stanzas.
+fn space_of_stanzas(alloc: Global, stanzas: &str) -> Option<Space> {
+    let repo = repository(alloc, stanzas)?;
+    if repo.is_flat() && repo.is_within_size() {
+        space_of(alloc, repo, false, 1000).ok()
+    } else {
+        drop(repo);
+        None
+    }
+}
+
 /// The archive of some stanzas.
 pub(crate) fn archive_of(alloc: Global, stanzas: &str) -> Option<Archive> {
-    let repo = repository(alloc, stanzas)?;
-    if !repo.is_flat() || !repo.is_within_size() {
-        return None;
-    }
-    start(alloc, space_of(alloc, repo, false, 1000).ok()?).ok()
+    start(alloc, space_of_stanzas(alloc, stanzas)?).ok()
 }
 
 /// Whether the packages and the bytes are few enough.
@@ -36,19 +41,20 @@ fn is_small(archive: &Archive, journal: &[u8]) -> bool
 }
 
 /// The answer of a journal, whose blocks may have two stanzas.
-pub(crate) fn answer(
+fn answer(
     alloc: Global,
     archive: &mut Archive,
     journal: &[u8],
 ) -> Option<Result<u32, FollowError>> {
-    if !is_small(archive, journal) {
-        return None;
+    if is_small(archive, journal) {
+        Some(follow(alloc, archive, journal, 2))
+    } else {
+        None
     }
-    Some(follow(alloc, archive, journal, 2))
 }
 
-/// Whether an answer is that of a row.
-pub(crate) fn is_same(answer: Result<u32, FollowError>, wanted: Result<u32, FollowError>) -> bool {
+/// Whether two answers are the same.
+fn are_same(answer: Result<u32, FollowError>, wanted: Result<u32, FollowError>) -> bool {
     match (answer, wanted) {
         (Ok(steps), Ok(other)) => steps == other,
         (Err(error), Err(other)) => error == other,
@@ -56,31 +62,59 @@ pub(crate) fn is_same(answer: Result<u32, FollowError>, wanted: Result<u32, Foll
     }
 }
 
+/// Whether an archive answers a journal so.
+pub(crate) fn is_answered(
+    alloc: Global,
+    archive: &mut Archive,
+    journal: &[u8],
+    wanted: Result<u32, FollowError>,
+) -> bool {
+    match answer(alloc, archive, journal) {
+        Some(given) => are_same(given, wanted),
+        None => false,
+    }
+}
+
+/// Whether an archive follows a journal to its end.
+pub(crate) fn is_followed(alloc: Global, archive: &mut Archive, journal: &[u8]) -> bool {
+    match answer(alloc, archive, journal) {
+        Some(given) => given.is_ok(),
+        None => false,
+    }
+}
+
+/// Whether the archive has a package of this name at this version.
+fn has(archive: &Archive, name: &str, version: &str) -> bool {
+    match archive.held(name.as_bytes()) {
+        Some(package) => package.version.text() == version.as_bytes(),
+        None => false,
+    }
+}
+
 /// Whether the archive has exactly these packages.
 fn has_exactly(archive: &Archive, packages: &[(&str, &str)]) -> bool {
     for (name, version) in packages {
-        let Some(package) = archive.held(name.as_bytes()) else {
-            return false;
-        };
-        if package.version.text() != version.as_bytes() {
+        if !has(archive, name, version) {
             return false;
         }
     }
     archive.len() as usize == packages.len()
 }
 
-/// Whether a row's journal is answered so, and leaves these packages.
-fn is_so(alloc: Global, row: &Row) -> Option<bool> {
-    let mut archive = archive_of(alloc, row.1)?;
-    let given = answer(alloc, &mut archive, row.2.as_bytes())?;
-    let so = is_same(given, row.3) && has_exactly(&archive, row.4);
+/// Whether a row's journal over some stanzas is answered so, and leaves these packages.
+fn is_so(alloc: Global, stanzas: &str, row: &Row) -> bool {
+    let Some(mut archive) = archive_of(alloc, stanzas) else {
+        return false;
+    };
+    let so = is_answered(alloc, &mut archive, row.1.as_bytes(), row.2)
+        && has_exactly(&archive, row.3);
     drop(archive);
-    Some(so)
+    so
 }
 
-/// Runs rows.
-pub(crate) fn hold(rt: &(impl Abort + AllocGlobal), rows: &[Row]) {
+/// Runs rows over some stanzas.
+pub(crate) fn hold(rt: &(impl Abort + AllocGlobal), stanzas: &str, rows: &[Row]) {
     for row in rows {
-        assert!(rt; is_so(rt.alloc(), row) == Some(true), "{}", row.0);
+        assert!(rt; is_so(rt.alloc(), stanzas, row), "{}", row.0);
     }
 }

@@ -1,5 +1,5 @@
 //! A plan of a later archive, written as a journal, leads there.
-use crate::journals::{answer, archive_of};
+use crate::journals::{archive_of, is_answered};
 use dist_archive::{Archive, Plan, Step, reach};
 use dist_repo::{Repository, same};
 use dist_samples::repository;
@@ -69,13 +69,12 @@ fn push_step(out: &mut Vec<u8>, step: &Step) -> Result<(), AllocError> {
     }
 }
 
-/// The journal of a plan.
-fn journal_of(alloc: Global, plan: &Plan) -> Result<Vec<u8>, AllocError> {
-    let mut out = Vec::new(alloc);
+/// Adds the steps of a plan.
+fn push_steps(out: &mut Vec<u8>, plan: &Plan) -> Result<(), AllocError> {
     for place in 0..plan.len() {
-        push_step(&mut out, plan.get(place))?;
+        push_step(out, plan.get(place))?;
     }
-    Ok(out)
+    Ok(())
 }
 
 /// The plan that leads from a space to the packages of a later archive.
@@ -102,19 +101,55 @@ fn holds_all(archive: &Archive, later: &Repository) -> bool {
     archive.len() == later.len()
 }
 
-/// Whether the journal of the plan from one archive to another leads there, by so many steps.
-fn is_reached(alloc: Global, today: &str, later: &str, steps: u32) -> Option<bool> {
-    let later = repository(alloc, later)?;
-    let mut archive = archive_of(alloc, today)?;
-    let plan = plan_of(alloc, archive.space(), &later)?;
-    let journal = journal_of(alloc, &plan).ok()?;
-    let given = answer(alloc, &mut archive, &journal)?;
-    let so = matches!(given, Ok(count) if count == steps) && holds_all(&archive, &later);
+/// Whether the journal of a plan leads an archive to a later one, by so many steps.
+fn leads(
+    alloc: Global,
+    archive: &mut Archive,
+    plan: &Plan,
+    later: &Repository,
+    steps: u32,
+) -> bool {
+    let mut journal = Vec::new(alloc);
+    let so = push_steps(&mut journal, plan).is_ok()
+        && is_answered(alloc, archive, &journal, Ok(steps))
+        && holds_all(archive, later);
+    drop(journal);
+    so
+}
+
+/// Whether the journal of the plan from an archive to a later one leads there, by so many steps.
+fn is_planned(alloc: Global, archive: &mut Archive, later: &Repository, steps: u32) -> bool {
+    match plan_of(alloc, archive.space(), later) {
+        Some(plan) => {
+            let so = leads(alloc, archive, &plan, later, steps);
+            drop(plan);
+            so
+        }
+        None => false,
+    }
+}
+
+/// Whether the journal of the plan from the archive of some stanzas to a later one leads there, by so many steps.
+fn is_reached_from(alloc: Global, today: &str, later: &Repository, steps: u32) -> bool {
+    let Some(mut archive) = archive_of(alloc, today) else {
+        return false;
+    };
+    let so = is_planned(alloc, &mut archive, later, steps);
     drop(archive);
-    Some(so)
+    so
+}
+
+/// Whether the journal of the plan from one archive to another leads there, by so many steps.
+fn is_reached(alloc: Global, today: &str, later: &str, steps: u32) -> bool {
+    let Some(later) = repository(alloc, later) else {
+        return false;
+    };
+    let so = is_reached_from(alloc, today, &later, steps);
+    drop(later);
+    so
 }
 
 #[test]
 fn plans_are_followed_to_later_archives(rt: HostRuntime) {
-    assert!(rt; is_reached(rt.alloc(), TODAY, LATER, 3) == Some(true));
+    assert!(rt; is_reached(rt.alloc(), TODAY, LATER, 3));
 }

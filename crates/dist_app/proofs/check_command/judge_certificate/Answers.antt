@@ -1,7 +1,4 @@
-use Rattle.std.proofs.Common.{inr, refl}
-use Rattle.dist_app.specs.Check.{CertificateStage, Reports}
 use Rattle.dist_app.proofs.CertificateStages.{reported}
-use Rattle.dist_app.proofs.Chains.{chain-unread}
 use Rattle.dist_app.proofs.check_command.judge_certificate.Goals as goal
 
 pub returns-in-Ok-report-clause-answers : goal.returns-in-Ok-report-clause-answers
@@ -9,8 +6,3 @@ returns-in-Ok-report-clause-answers g c =
     reported (g.D.Desk.view c.args.desk.now).files c.args.limits.now c.args.cert.now c.args.repository.now c.in-Ok.accepted.header c.in-Ok.accepted.claims
     c.in-Ok-report.answer.status c.in-Ok-report.answer.text.items c.in-Ok.ensures.goes c.in-Ok.ensures.means c.in-Ok-report.ensures.status
     c.in-Ok-report.ensures.text
-
-pub returns-in-Err-clause-due : goal.returns-in-Err-clause-due
-returns-in-Err-clause-due g c =
-    chain-unread (λ files. CertificateStage files c.args.limits.now c.args.cert.now c.args.repository.now) (λ files. Reports files c.args.repository.now)
-    (g.D.Desk.view c.args.desk.now) (g.D.Desk.view c.accept.new.desk) c.in-Err.refusal c.in-Err.ensures.due

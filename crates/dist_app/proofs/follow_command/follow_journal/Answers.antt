@@ -1,4 +1,3 @@
-use Rattle.std.proofs.Common.{arith}
 use Rattle.dist_app.specs.Follow.{JournalStage, TellsFollowed}
 use Rattle.dist_app.specs.FollowPrivate.{pair_of}
 use Rattle.dist_app.specs.Stages.{Then}

@@ -1,5 +1,3 @@
-use Rattle.std.proofs.Common.{ℕ, List, Option}
-use Rattle.dist_outside.specs.Files.{Files}
 use Rattle.dist_app.specs.PackagesStage.{PackagesStage}
 use Rattle.dist_app.proofs.Chains.{chain-answers, chain-due, chain-unread}
 use Rattle.dist_app.proofs.Due.{ok_more, err_more}

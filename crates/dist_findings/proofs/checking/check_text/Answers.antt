@@ -1,18 +1,24 @@
-use Rattle.std.proofs.Common.{◌∙◌, List, [], ◌∷◌, ◌++◌, ℕ, Option, Some, None, Ok, refl, sym, subst}
+use Rattle.std.proofs.Common.{List, [], ◌∷◌, ◌++◌, ℕ, Option, Some, None, Result, Ok, Err, IfErr, refl, sym, subst}
 use Rattle.dist_base.specs.Ascii.{line_feed}
-use Rattle.dist_outside.specs.DeskView.{DeskView}
+use Rattle.dist_outside.specs.DeskView.{DeskView, OnlyReads}
 use Rattle.dist_outside.specs.Reading.{bytes_left}
+use Rattle.dist_cert.specs.declared.faults.ReadCertError.{ReadCertError}
 use Rattle.dist_cert.specs.FirstLine.{FirstAnswers, FirstOfSome, GivesFirst}
 use Rattle.dist_cert.specs.Reading.{WhereTold, text_left}
 use Rattle.dist_judge.specs.Causes.{TextCause}
 use Rattle.dist_judge.specs.Judging.{OfText}
-use Rattle.dist_judge.specs.ReadingLaws.{by_exit, nothing_read}
-use Rattle.dist_findings.specs.AnswerFiles.{AnswerFile}
+use Rattle.dist_judge.specs.ReadingLaws.{by_exit, later_cause, nothing_read}
 use Rattle.dist_findings.specs.Answers.{TextAnswers}
 use Rattle.dist_findings.specs.FilesClearLaws.{clear_files}
 use Rattle.dist_findings.specs.declared.finding.Finding.{Finding}
 use Rattle.dist_findings.proofs.First.{begin-stops, begins-checked, first-stops}
 use Rattle.dist_findings.proofs.checking.check_text.Goals as goal
+
+-- the cause of each refusal, behind what was read before
+later-causes : {X : Type 0} (entry old new : DeskView) (result : Result X ReadCertError) → OnlyReads entry old → OnlyReads old new
+    → IfErr result (TextCause old new) → IfErr result (TextCause entry new)
+later-causes entry old new (Ok x) first second cause = tt
+later-causes entry old new (Err error) first second cause = later_cause entry old new error first second cause
 
 pub returns-in_err-line-clause-text : goal.returns-in_err-line-clause-text
 returns-in_err-line-clause-text g c =
@@ -100,3 +106,10 @@ returns-clause-text g c =
     told left after c.deref.result.now c.new-reader.ensures (nothing_read c.args.limits.now c.new-reader.result old c.new-reader.ensures) answers some gives
     numbers c.in_ok-begun.begun.asking (λ (found : List Finding). g.A.Answering.noted c.args.answering.now numbers found c.in_ok-begun.begun.notes)
     c.in_ok-begun.ensures.ok c.in_ok-begun.ensures.noted)
+
+pub returns-clause-cause : goal.returns-clause-cause
+returns-clause-cause g c =
+    let old : DeskView = g.D.Desk.view c.args.desk.now in
+    let middle : DeskView = g.D.Desk.view c.first.new.desk in
+    let new : DeskView = g.D.Desk.view c.answers_behind.new.desk in
+    later-causes old middle new c.answers_behind.result c.first.ensures.only_reads c.answers_behind.ensures.only_reads c.answers_behind.ensures.cause

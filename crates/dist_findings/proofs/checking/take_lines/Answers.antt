@@ -1,9 +1,9 @@
-use Rattle.std.proofs.Common.{◌∙◌, List, [], ◌∷◌, ◌++◌, ℕ, Option, Some, None, Result, Ok, IfErr, arith, ap, refl, sym, subst}
+use Rattle.std.proofs.Common.{◌∙◌, List, [], ◌∷◌, ◌++◌, ℕ, Option, Some, None, Result, Ok, ap, refl, sym, subst}
 use Rattle.dist_base.specs.Ascii.{line_feed}
 use Rattle.dist_outside.specs.DeskView.{DeskView}
 use Rattle.dist_cert.specs.declared.faults.ReadCertError.{ReadCertError}
 use Rattle.dist_cert.specs.declared.records.CertRecord.{CertRecord}
-use Rattle.dist_cert.specs.FileLines.{IsOneLine, file_text}
+use Rattle.dist_cert.specs.FileLines.{file_text}
 use Rattle.dist_cert.specs.FirstLines.{first_line}
 use Rattle.dist_cert.specs.Form.{record_text}
 use Rattle.dist_cert.specs.Reading.{ReaderView, RecordAnswers, RecordCause, RecordOfSome, GivesRecord, WhereTold, text_left}
