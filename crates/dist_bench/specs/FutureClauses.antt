@@ -21,9 +21,13 @@ pub record AreFutureWithin (space : SpaceView) (clauses : List (List Literal)) :
   pub within : ¬ PassesFutureLimits space
 
 -- so many clauses the space has, and so many literals they have together
+abbrev pub HaveSpaceCounts : SpaceView → SetCounts → Type 0
+HaveSpaceCounts space counts = (clauses : List (List Literal)) × AreFutureWithin space clauses
+    × (counts.clauses ≡ length clauses) × (counts.literals ≡ literal_count clauses)
+
+-- so many the space of the newest packages of the text has
 abbrev pub HaveFutureCounts : (text : List ℕ) → SetCounts → Type 0
-HaveFutureCounts text counts = OfSpace text (λ space. (clauses : List (List Literal)) × AreFutureWithin space clauses
-    × (counts.clauses ≡ length clauses) × (counts.literals ≡ literal_count clauses))
+HaveFutureCounts text counts = OfSpace text (λ space. HaveSpaceCounts space counts)
 
 abbrev pub future_counts_text : SetCounts → List ℕ
 future_counts_text counts = counted counts.clauses (codes " clauses of futures, ")

@@ -53,9 +53,14 @@ pub record ArePresentWithin (r : PackageList) (essential : Bool) (clauses : List
 
 -- ---- the answer of `count-clauses`, at mode plain, and why it has none
 
+-- so many clauses of the present it has at mode plain, which pass no stated limit
+abbrev pub HasClauseCount : PackageList → (count : ℕ) → Type 0
+HasClauseCount r count = (clauses : List (List Literal)) × ArePresentWithin r false clauses × (count ≡ length clauses)
+
+-- the answer tells how many clauses of the present the packages of the text have
 abbrev pub IsClausesText : (text answer : List ℕ) → Type 0
-IsClausesText text answer = OfFile text (λ r. (clauses : List (List Literal)) × ArePresentWithin r false clauses
-    × (answer ≡ counted (length clauses) (codes " clauses\n")))
+IsClausesText text answer = OfFile text (λ r. (count : ℕ) × HasClauseCount r count
+    × (answer ≡ counted count (codes " clauses\n")))
 
 abbrev pub HasNoClauses : (text : List ℕ) → JobError → Type 0
 HasNoClauses text error = HasNoPackages text error

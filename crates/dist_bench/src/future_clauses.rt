@@ -2,7 +2,7 @@
 ghost use Rattle.std.specs.Prelude.{◌≡◌, ◌≤◌, IfOk, length};
 ghost use Rattle.dist_base.specs.Answers.{Answers};
 ghost use Rattle.dist_clause.specs.ClauseList.{clause_at, literal_count};
-ghost use Rattle.dist_bench.specs.FutureClauses.{AreFutureWithin, HasNoFutureClauses, HaveFutureCounts, IsFutureClausesText, PassesFutureLimits, future_counts_text};
+ghost use Rattle.dist_bench.specs.FutureClauses.{AreFutureWithin, HasNoFutureClauses, HaveFutureCounts, HaveSpaceCounts, IsFutureClausesText, PassesFutureLimits, future_counts_text};
 
 use crate::counted::{add_counted, counted};
 use crate::error::JobError;
@@ -54,16 +54,28 @@ pub(crate) struct SetCounts {
     pub(crate) literals: u128,
 }
 
-/// How many clauses the space of the newest packages of the file has, and how many literals they have together.
+/// How many clauses a space has, and how many literals they have together.
+fn counts_of_space(alloc: Global, space: &Space) -> Result<SetCounts, JobError>
+    ensures { Answers (HaveSpaceCounts space.now) (λ error. (error ≡ JobError.TooManyClauses) × PassesFutureLimits space.now)
+        JobError.NoMemory result }
+{
+    let set = space_clauses(alloc, space)?;
+    let counts = SetCounts {
+        clauses: set.len(),
+        literals: literal_count(&set),
+    };
+    drop(set);
+    Ok(counts)
+}
+
+/// The same of the space of the newest packages of the file.
 fn counts_of(alloc: Global, text: &[u8]) -> Result<SetCounts, JobError>
     ensures { Answers (HaveFutureCounts text.now) (HasNoFutureClauses text.now) JobError.NoMemory result }
 {
     let space = space_of_file(alloc, text)?;
-    let set = space_clauses(alloc, &space)?;
-    Ok(SetCounts {
-        clauses: set.len(),
-        literals: literal_count(&set),
-    })
+    let counts = counts_of_space(alloc, &space);
+    drop(space);
+    counts
 }
 
 /// The counts in words.

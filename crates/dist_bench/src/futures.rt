@@ -26,7 +26,10 @@ pub(crate) fn space_of_file(alloc: Global, text: &[u8]) -> Result<Space, JobErro
 fn variable_count(alloc: Global, text: &[u8]) -> Result<u32, JobError>
     ensures { Answers (λ count. OfSpace text.now (λ space. count ≡ length space.meanings)) (HasNoSpace text.now) JobError.NoMemory result }
 {
-    Ok(space_of_file(alloc, text)?.variables())
+    let space = space_of_file(alloc, text)?;
+    let count = space.variables();
+    drop(space);
+    Ok(count)
 }
 
 /// How many variables the space of the newest packages of the file has.

@@ -3,7 +3,7 @@ ghost use Rattle.std.specs.Prelude.{◌≡◌, ◌⊎◌, ◌++◌, ◌<◌, fal
 ghost use Rattle.dist_base.specs.Answers.{Answers};
 ghost use Rattle.dist_classes.specs.Answers.{AreClustersOf};
 ghost use Rattle.dist_repo.specs.Size.{IsWithinSize};
-ghost use Rattle.dist_bench.specs.Packages.{ArePresentWithin, HasNoClauses, HasNoPackages, HaveClasses, IsClassesText, IsClausesText, IsFileOf, IsNewestOf, IsPackagesText, OfNewest, PassesPresentLimits};
+ghost use Rattle.dist_bench.specs.Packages.{ArePresentWithin, HasClauseCount, HasNoClauses, HasNoPackages, HaveClasses, IsClassesText, IsClausesText, IsFileOf, IsNewestOf, IsPackagesText, OfNewest, PassesPresentLimits};
 
 use crate::counted::{add_counted, counted};
 use crate::error::JobError;
@@ -48,7 +48,9 @@ pub fn packages_text(alloc: Global, text: &[u8]) -> Result<Vec<u8>, JobError>
     ensures { Answers (λ answer. IsPackagesText text.now answer.items) (HasNoPackages text.now) JobError.NoMemory result }
 {
     let repository = repository_of(alloc, text)?;
-    Ok(counted(alloc, u128::from(repository.len()), b" packages\n")?)
+    let count = repository.len();
+    drop(repository);
+    Ok(counted(alloc, u128::from(count), b" packages\n")?)
 }
 
 /// The clauses of the present.
@@ -70,13 +72,26 @@ pub(crate) fn present_clauses(
     }
 }
 
+/// How many clauses of the present a repository has, at mode plain.
+fn clause_count(alloc: Global, repository: &Repository) -> Result<u32, JobError>
+    requires { IsWithinSize repository.now }
+    ensures { Answers (HasClauseCount repository.now) (λ error. (error ≡ JobError.TooManyClauses) × PassesPresentLimits repository.now false)
+        JobError.NoMemory result }
+{
+    let set = present_clauses(alloc, repository, false)?;
+    let count = set.len();
+    drop(set);
+    Ok(count)
+}
+
 /// How many clauses of the present the packages of the file have.
 pub fn clauses_text(alloc: Global, text: &[u8]) -> Result<Vec<u8>, JobError>
     ensures { Answers (λ answer. IsClausesText text.now answer.items) (HasNoClauses text.now) JobError.NoMemory result }
 {
     let repository = repository_of(alloc, text)?;
-    let set = present_clauses(alloc, &repository, false)?;
-    Ok(counted(alloc, u128::from(set.len()), b" clauses\n")?)
+    let count = clause_count(alloc, &repository);
+    drop(repository);
+    Ok(counted(alloc, u128::from(count?), b" clauses\n")?)
 }
 
 /// How many classes the clusters of a repository have. There are not so many clusters that the number passes 128 bits.
@@ -117,5 +132,7 @@ pub fn classes_text(alloc: Global, text: &[u8]) -> Result<Vec<u8>, JobError>
     ensures { Answers (λ answer. OfNewest text.now (λ r. IsClassesText r answer.items)) (HasNoPackages text.now) JobError.NoMemory result }
 {
     let newest = newest_of(alloc, text)?;
-    Ok(repository_classes(alloc, &newest)?)
+    let classes = repository_classes(alloc, &newest);
+    drop(newest);
+    Ok(classes?)
 }

@@ -170,7 +170,9 @@ pub fn asked_text(alloc: Global, text: &[u8], essential: bool) -> Result<Vec<u8>
     ensures { Answers (λ answer. OfNewest text.now (λ r. IsAskedText r answer.items)) (HasNoQuestions essential text.now) JobError.NoMemory result }
 {
     let newest = newest_of(alloc, text)?;
-    asked_of(alloc, &newest, essential)
+    let asked = asked_of(alloc, &newest, essential);
+    drop(newest);
+    asked
 }
 
 /// What is said of a package by the answer on it.
@@ -237,5 +239,7 @@ pub fn last_text(alloc: Global, text: &[u8]) -> Result<Vec<u8>, JobError>
     ensures { Answers (λ answer. OfNewest text.now (λ r. IsLastText r answer.items)) (HasNoQuestions false text.now) JobError.NoMemory result }
 {
     let newest = newest_of(alloc, text)?;
-    last_of(alloc, &newest)
+    let last = last_of(alloc, &newest);
+    drop(newest);
+    last
 }

@@ -1,17 +1,15 @@
 //! Runs of which each call of the desk, or each write to `out` or to `err`, fails in turn, until a run meets no fault.
+use crate::walks::{ANSWERED, REFUSED, Walk};
 use dist_app::Status;
-use dist_top_rows::{
-    After, Ended, Failing, NOTHING, Row, SINK_STEP, carried_out, check_rows, classes_rows,
-    follow_rows, health_rows, steps_rows, strong_rows, wrong_in,
-};
-use std::alloc::AllocError;
+use dist_top_rows::{After, Ended, Failing, NOTHING, Row, SINK_STEP, carried_out, wrong_in};
+use std::alloc::{AllocError, Global};
 use std::process::Abort;
 use std::test::Fail;
 
-/// What fails in turn: the calls of the desk, of which the first ones, of this number, read; or the writes to a sink.
-#[derive(Clone, Copy)]
+/// What fails in turn: the calls of the desk, or the writes to a sink.
+#[derive(Clone, Copy, PartialEq, Eq)]
 enum Device {
-    Desk(u32),
+    Desk,
     Out,
     Err,
 }
@@ -20,7 +18,7 @@ enum Device {
 fn failing(device: Device, done: u32) -> Failing {
     let call = u64::from(done) + 1;
     match device {
-        Device::Desk(_) => Failing {
+        Device::Desk => Failing {
             desk: call,
             ..NOTHING
         },
@@ -38,7 +36,7 @@ fn failing(device: Device, done: u32) -> Failing {
 /// Whether a call of the device failed.
 fn has_failed(device: Device, ended: &Ended) -> bool {
     match device {
-        Device::Desk(_) => ended.desk.faults() > 0,
+        Device::Desk => ended.desk.faults() > 0,
         Device::Out => ended.out.faults() > 0,
         Device::Err => ended.err.faults() > 0,
     }
@@ -55,17 +53,17 @@ fn unread(row: &Row) -> Row {
     }
 }
 
-/// What a row comes to where the file is not made, or else is not written whole.
+/// What a row comes to where the certificate is not made, or else is not written whole.
 fn unwritten(row: &Row, made: bool) -> Row {
-    let after = match row.after {
-        After::Is(text) if made => After::FrontOf(text),
-        _ => After::AsBefore,
-    };
     Row {
         status: Status::WriteFault,
         out: "",
         err: "distfuture: write fault\n",
-        after,
+        after: if made {
+            After::Begins("")
+        } else {
+            After::AsBefore
+        },
         ..*row
     }
 }
@@ -79,12 +77,13 @@ fn front(text: &'static str, count: usize) -> &'static str {
     }
 }
 
-/// What a row comes to where the call of the device after so many fails. What the writes before it printed is there, and of
-/// the line on `err` a front is.
-fn stopped(row: &Row, device: Device, done: u32, ended: &Ended) -> Row {
+/// What a walk's row comes to where the call of the device after so many fails. What the writes before it printed is there, and
+/// of the line on `err` a front is.
+fn stopped(walk: &Walk, device: Device, done: u32, ended: &Ended) -> Row {
+    let row = &walk.row;
     match device {
-        Device::Desk(reads) if done < reads => unread(row),
-        Device::Desk(reads) => unwritten(row, done > reads),
+        Device::Desk if done < walk.reads => unread(row),
+        Device::Desk => unwritten(row, done > walk.reads),
         Device::Out => Row {
             status: Status::WriteFault,
             out: front(row.out, done as usize * SINK_STEP),
@@ -98,150 +97,134 @@ fn stopped(row: &Row, device: Device, done: u32, ended: &Ended) -> Row {
     }
 }
 
-/// A row of which the calls of a device fail in turn.
-#[derive(Clone, Copy)]
-struct Walk {
-    name: &'static str,
-    device: Device,
-    row: Row,
+/// Whether a run left the certificate of one without a fault.
+fn is_whole(ended: &Ended, whole: &Ended) -> bool {
+    match (ended.desk.get("cert"), whole.desk.get("cert")) {
+        (Some(held), Some(text)) => held == text,
+        (None, None) => true,
+        _ => false,
+    }
 }
 
-/// Lets the call after so many fail. Whether there was one.
-fn fails(rt: &(impl Abort + AllocGlobal), walk: &Walk, done: u32) -> Result<bool, AllocError> {
-    let failing = failing(walk.device, done);
-    let ended = carried_out(
-        rt.alloc(),
-        &Row {
-            failing,
-            ..walk.row
-        },
-    )?;
-    let failed = has_failed(walk.device, &ended);
+/// Whether it left a front of that.
+fn is_front(ended: &Ended, whole: &Ended) -> bool {
+    match (ended.desk.get("cert"), whole.desk.get("cert")) {
+        (Some(held), Some(text)) => text.starts_with(held),
+        (None, None) => true,
+        _ => false,
+    }
+}
+
+/// Whether the certificate is left as it is to be where the call of the device after so many fails: once it is made a front of it
+/// stands, and where a sink fails it is whole.
+fn is_left(walk: &Walk, device: Device, done: u32, ended: &Ended, whole: &Ended) -> bool {
+    match device {
+        Device::Desk if done <= walk.reads => true,
+        Device::Desk => is_front(ended, whole),
+        Device::Out | Device::Err => is_whole(ended, whole),
+    }
+}
+
+/// What is seen of a run: whether a call failed, whether the certificate is whole, and the first thing that is wrong, if any.
+#[derive(Clone, Copy)]
+struct Seen {
+    failed: bool,
+    whole: bool,
+    wrong: Option<&'static str>,
+}
+
+/// What is seen of a run in which the call of the device after so many fails, beside a run without a fault.
+fn look_at(walk: &Walk, device: Device, done: u32, ended: &Ended, whole: &Ended) -> Seen {
+    let failed = has_failed(device, ended);
     let wanted = if failed {
-        stopped(&walk.row, walk.device, done, &ended)
+        stopped(walk, device, done, ended)
     } else {
         walk.row
     };
-    assert_eq!(rt;
-        wrong_in(&wanted, &ended),
-        None,
-        "{}, after {done}",
-        walk.name
-    );
-    Ok(failed)
+    let wrong = match wrong_in(&wanted, ended) {
+        None if !is_left(walk, device, done, ended, whole) => Some("what is left of the file"),
+        wrong => wrong,
+    };
+    Seen {
+        failed,
+        whole: is_whole(ended, whole),
+        wrong,
+    }
 }
 
-/// Lets each call fail in turn.
-fn each_call(rt: &(impl Abort + AllocGlobal), walk: &Walk) -> Result<(), AllocError> {
+/// Runs a walk's row so that the call of the device after so many fails.
+fn run_after(
+    alloc: Global,
+    walk: &Walk,
+    device: Device,
+    done: u32,
+    whole: &Ended,
+) -> Result<Seen, AllocError> {
+    let row = Row {
+        failing: failing(device, done),
+        ..walk.row
+    };
+    let ended = carried_out(alloc, &row)?;
+    let seen = look_at(walk, device, done, &ended, whole);
+    drop(ended);
+    Ok(seen)
+}
+
+/// Lets each call of the device fail in turn. The last one of the desk closes the certificate, which is then whole.
+fn each_call(
+    rt: &(impl Abort + AllocGlobal),
+    walk: &Walk,
+    device: Device,
+    whole: &Ended,
+) -> Result<(), AllocError> {
+    let mut is_whole = true;
     for done in 0..1000 {
-        if !fails(rt, walk, done)? {
+        let seen = run_after(rt.alloc(), walk, device, done, whole)?;
+        assert_eq!(rt; seen.wrong, None, "{}, after {done}", walk.name);
+        if !seen.failed {
+            assert!(rt; is_whole, "{} is cut at its end", walk.name);
             return Ok(());
         }
+        is_whole = seen.whole;
     }
     assert!(rt; false, "each run of {} has a fault", walk.name);
     Ok(())
 }
 
-const WALKS: [Walk; 17] = [
-    // A start, eight reads of 56 bytes, and one that comes to the end.
-    Walk {
-        name: "strong, its desk",
-        device: Device::Desk(10),
-        row: strong_rows::TWO,
-    },
-    Walk {
-        name: "strong, out",
-        device: Device::Out,
-        row: strong_rows::TWO,
-    },
-    // Commands that only read.
-    Walk {
-        name: "check, its desk",
-        device: Device::Desk(u32::MAX),
-        row: check_rows::TEN,
-    },
-    Walk {
-        name: "check, out",
-        device: Device::Out,
-        row: check_rows::TEN,
-    },
-    Walk {
-        name: "health, its desk",
-        device: Device::Desk(u32::MAX),
-        row: health_rows::UNMET,
-    },
-    Walk {
-        name: "health, out",
-        device: Device::Out,
-        row: health_rows::UNMET,
-    },
-    Walk {
-        name: "classes, its desk",
-        device: Device::Desk(u32::MAX),
-        row: classes_rows::CUT,
-    },
-    Walk {
-        name: "classes, out",
-        device: Device::Out,
-        row: classes_rows::CUT,
-    },
-    Walk {
-        name: "steps, its desk",
-        device: Device::Desk(u32::MAX),
-        row: steps_rows::MOVED,
-    },
-    Walk {
-        name: "steps, out",
-        device: Device::Out,
-        row: steps_rows::MOVED,
-    },
-    Walk {
-        name: "follow, its desk",
-        device: Device::Desk(u32::MAX),
-        row: follow_rows::FOLLOWED,
-    },
-    Walk {
-        name: "follow, out",
-        device: Device::Out,
-        row: follow_rows::FOLLOWED,
-    },
-    // A line that is cut changes no status.
-    Walk {
-        name: "follow, err",
-        device: Device::Err,
-        row: follow_rows::NOT_ABOVE,
-    },
-    Walk {
-        name: "strong, err",
-        device: Device::Err,
-        row: strong_rows::CUT_SHORT,
-    },
-    Walk {
-        name: "check, err",
-        device: Device::Err,
-        row: check_rows::BAD_LINE,
-    },
-    Walk {
-        name: "health, err",
-        device: Device::Err,
-        row: health_rows::BAD_DEPENDS,
-    },
-    Walk {
-        name: "classes, err",
-        device: Device::Err,
-        row: classes_rows::BAD_STANZA,
-    },
-];
+/// Runs a walk's row without a fault, and then with each.
+fn each_fault(
+    rt: &(impl Abort + AllocGlobal),
+    walk: &Walk,
+    device: Device,
+) -> Result<(), AllocError> {
+    let whole = carried_out(rt.alloc(), &walk.row)?;
+    let answer = each_call(rt, walk, device, &whole);
+    drop(whole);
+    answer
+}
 
-/// Lets each call of each row fail in turn.
-fn each_walk(rt: &(impl Abort + AllocGlobal), walks: &[Walk]) -> Result<(), AllocError> {
+fn hold_walks(
+    rt: &(impl Abort + AllocGlobal),
+    walks: &[Walk],
+    device: Device,
+) -> Result<(), AllocError> {
     for walk in walks {
-        each_call(rt, walk)?;
+        each_fault(rt, walk, device)?;
     }
     Ok(())
 }
 
 #[test]
-fn each_fault_is_told(rt: HostRuntime) -> Result<(), Fail> {
-    Ok(each_walk(&rt, &WALKS)?)
+fn each_fault_of_the_desk_is_told(rt: HostRuntime) -> Result<(), Fail> {
+    Ok(hold_walks(&rt, ANSWERED, Device::Desk)?)
+}
+
+#[test]
+fn each_fault_of_out_is_told(rt: HostRuntime) -> Result<(), Fail> {
+    Ok(hold_walks(&rt, ANSWERED, Device::Out)?)
+}
+
+#[test]
+fn each_fault_of_err_changes_no_status(rt: HostRuntime) -> Result<(), Fail> {
+    Ok(hold_walks(&rt, REFUSED, Device::Err)?)
 }

@@ -3,3 +3,5 @@
 
 #[cfg(test)]
 mod each_call;
+#[cfg(test)]
+mod walks;

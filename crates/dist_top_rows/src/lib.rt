@@ -4,12 +4,15 @@
 
 pub mod check_rows;
 pub mod classes_rows;
+pub mod essential_rows;
 pub mod follow_rows;
+pub mod futures_rows;
 pub mod health_rows;
 mod row;
 mod running;
 pub mod steps_rows;
 pub mod strong_rows;
+pub mod trial_rows;
 pub mod words_rows;
 
 pub use row::{After, EMPTY, Failing, NOTHING, Row, Table};

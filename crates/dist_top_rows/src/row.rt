@@ -16,12 +16,11 @@ pub const NOTHING: Failing = Failing {
     err: 0,
 };
 
-/// What the file `cert` is to be afterwards: as it was, a text with this front, a front of this text, or this text.
+/// What the file `cert` is to be afterwards: as it was, a text with this front, or this text.
 #[derive(Clone, Copy)]
 pub enum After {
     AsBefore,
     Begins(&'static str),
-    FrontOf(&'static str),
     Is(&'static str),
 }
 

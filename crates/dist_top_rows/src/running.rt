@@ -23,17 +23,43 @@ pub struct Ended {
     pub err: MemorySink,
 }
 
-/// The desk of a row, with its files.
-pub fn desk_of(alloc: Global, row: &Row) -> Result<MemoryDesk, AllocError>
-    ensures { IfOk result (λ desk. IsNotWriting desk.mode) }
+/// Puts the files of a row on a desk.
+fn put_files(desk: &mut MemoryDesk, row: &Row) -> Result<(), AllocError>
+    requires { IsNotWriting desk.old.mode }
+    ensures { IsNotWriting desk.new.mode }
 {
-    let mut desk = MemoryDesk::new(alloc, DESK_STEP, &[row.failing.desk])?;
     desk.put("packages", row.packages.as_bytes())?;
     desk.put("list", row.list.as_bytes())?;
     if let Some(cert) = row.cert {
         desk.put("cert", cert.as_bytes())?;
     }
-    Ok(desk)
+    Ok(())
+}
+
+/// The desk of a row, with its files.
+pub fn desk_of(alloc: Global, row: &Row) -> Result<MemoryDesk, AllocError>
+    ensures { IfOk result (λ desk. IsNotWriting desk.mode) }
+{
+    let mut desk = MemoryDesk::new(alloc, DESK_STEP, &[row.failing.desk])?;
+    match put_files(&mut desk, row) {
+        Ok(()) => Ok(desk),
+        Err(error) => {
+            drop(desk);
+            Err(error)
+        }
+    }
+}
+
+/// The sinks of a row.
+fn sinks_of(alloc: Global, row: &Row) -> Result<(MemorySink, MemorySink), AllocError> {
+    let out = MemorySink::new(alloc, SINK_STEP, &[row.failing.out])?;
+    match MemorySink::new(alloc, SINK_STEP, &[row.failing.err]) {
+        Ok(err) => Ok((out, err)),
+        Err(error) => {
+            drop(out);
+            Err(error)
+        }
+    }
 }
 
 /// The top call at the stated limits, or at those but for one.
@@ -53,19 +79,38 @@ fn called(
     }
 }
 
+/// Runs words over the desk of a row, and says how it ended.
+fn run_on(
+    alloc: Global,
+    row: &Row,
+    words: &[String],
+    mut desk: MemoryDesk,
+) -> Result<Ended, AllocError>
+    requires { IsNotWriting desk.mode }
+{
+    match sinks_of(alloc, row) {
+        Ok((mut out, mut err)) => Ok(Ended {
+            status: called(alloc, words, &mut desk, &mut out, &mut err, row.at_most),
+            desk,
+            out,
+            err,
+        }),
+        Err(error) => {
+            drop(desk);
+            Err(error)
+        }
+    }
+}
+
 /// Runs a row, and says how it ended.
 pub fn carried_out(alloc: Global, row: &Row) -> Result<Ended, AllocError> {
     let words = words_of(alloc, row.words)?;
-    let mut desk = desk_of(alloc, row)?;
-    let mut out = MemorySink::new(alloc, SINK_STEP, &[row.failing.out])?;
-    let mut err = MemorySink::new(alloc, SINK_STEP, &[row.failing.err])?;
-    let status = called(alloc, &words, &mut desk, &mut out, &mut err, row.at_most);
-    Ok(Ended {
-        status,
-        desk,
-        out,
-        err,
-    })
+    let ended = match desk_of(alloc, row) {
+        Ok(desk) => run_on(alloc, row, &words, desk),
+        Err(error) => Err(error),
+    };
+    drop(words);
+    ended
 }
 
 /// Whether the file `cert` is as the row wants it.
@@ -74,7 +119,6 @@ fn is_after(row: &Row, held: Option<&[u8]>) -> bool {
         (After::AsBefore, _) => is_held(held, row.cert),
         (After::Is(text), _) => is_held(held, Some(text)),
         (After::Begins(front), Some(bytes)) => bytes.starts_with(front.as_bytes()),
-        (After::FrontOf(text), Some(bytes)) => text.as_bytes().starts_with(bytes),
         (_, None) => false,
     }
 }
@@ -108,7 +152,9 @@ fn first_wrong_file(row: &Row, desk: &MemoryDesk) -> Option<&'static str> {
 /// Runs a row, and tells the first thing that isn't as it says, if any.
 pub fn wrong_of(alloc: Global, row: &Row) -> Result<Option<&'static str>, AllocError> {
     let ended = carried_out(alloc, row)?;
-    Ok(wrong_in(row, &ended))
+    let wrong = wrong_in(row, &ended);
+    drop(ended);
+    Ok(wrong)
 }
 
 /// What isn't as a row says, the name of its table, and its place there.

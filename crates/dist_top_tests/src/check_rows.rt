@@ -1,11 +1,10 @@
 //! Worked rows of `check`: certificates that are accepted, refused, too large, or not read.
 use dist_app::Status;
 use dist_outside::What;
-use dist_samples::{CHALLENGES, LIBRARY};
 use dist_top_rows::check_rows::{
     BAD_LINE, MAYBE_CHALLENGED, MAYBE_OUTDATED, MISSING, REFUSED, TEN,
 };
-use dist_top_rows::{Failing, NOTHING, Row, Table, first_wrong};
+use dist_top_rows::{Failing, NOTHING, Row, Table, check_rows, first_wrong};
 use std::test::Fail;
 
 // Package a, which depends on b or c, and b, which depends on c, and c and d. One derived line leaves a undecided.
@@ -50,32 +49,12 @@ undecided: []
     ..TEN
 };
 
-// Later versions of a library at and above a bound break the program that needs it below.
-const CHALLENGED: Row = Row {
-    packages: LIBRARY,
-    cert: Some(CHALLENGES),
-    out: "report: \"challenged\"
-limit: 10000
-packages: 2
-uninstallable: []
-challenged:
-  - cluster: \"libx=1\"
-    class: \"= 2\"
-    example: \"2\"
-    breaks:
-      - \"p=1\"
-  - cluster: \"libx=1\"
-    class: \">> 2\"
-    example: \"2-0A\"
-    breaks:
-      - \"p=1\"
-undecided: []
-undecided_classes: []
-",
-    ..TEN
-};
-
-const ON_FUTURES: [Row; 4] = [OUTDATED, CHALLENGED, MAYBE_OUTDATED, MAYBE_CHALLENGED];
+const ON_FUTURES: [Row; 4] = [
+    OUTDATED,
+    check_rows::CHALLENGED,
+    MAYBE_OUTDATED,
+    MAYBE_CHALLENGED,
+];
 
 const REFUSALS: [Row; 8] = [
     BAD_LINE,

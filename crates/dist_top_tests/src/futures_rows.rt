@@ -1,8 +1,8 @@
 //! Worked rows of `outdated` and `challenged`, and of `check` on what they write.
 use dist_app::Status;
 use dist_outside::What;
-use dist_samples::{LIBRARY, PYTHON};
-use dist_top_rows::{After, EMPTY, Row, Table, first_wrong};
+use dist_samples::PYTHON;
+use dist_top_rows::{After, EMPTY, Row, Table, essential_rows, first_wrong, futures_rows};
 use std::test::Fail;
 
 /// Two packages of one source, and one that needs versions of both which no later archive has together.
@@ -138,65 +138,6 @@ undecided: []
     },
 ];
 
-/// A library, and a program that needs it below version 2.
-const CHALLENGED: Row = Row {
-    words: &["challenged", "packages", "cert"],
-    packages: LIBRARY,
-    out: "report: \"challenged\"
-limit: 10000
-packages: 2
-uninstallable: []
-challenged:
-  - cluster: \"libx=1\"
-    class: \"= 2\"
-    example: \"2\"
-    breaks:
-      - \"p=1\"
-  - cluster: \"libx=1\"
-    class: \">> 2\"
-    example: \"2-0A\"
-    breaks:
-      - \"p=1\"
-undecided: []
-undecided_classes: []
-",
-    after: After::Begins("distfuture-certificate 1 challenged plain 10000 2 11 16\n"),
-    ..OUTDATED
-};
-
-/// An essential package, and one that is in conflict with its later versions.
-const ESSENTIAL: Row = Row {
-    words: &["challenged", "packages", "cert", "--essential"],
-    packages: "Package: base
-Version: 1
-Essential: yes
-
-Package: p
-Version: 1
-Conflicts: base (>= 2)
-",
-    out: "report: \"challenged\"
-limit: 10000
-packages: 2
-uninstallable: []
-challenged:
-  - cluster: \"base=1\"
-    class: \"= 2\"
-    example: \"2\"
-    breaks:
-      - \"p=1\"
-  - cluster: \"base=1\"
-    class: \">> 2\"
-    example: \"2-0A\"
-    breaks:
-      - \"p=1\"
-undecided: []
-undecided_classes: []
-",
-    after: After::Begins("distfuture-certificate 1 challenged essential 10000 2 11 18\n"),
-    ..OUTDATED
-};
-
 const NONE_CHALLENGED: &str = "report: \"challenged\"
 limit: 10000
 packages: 2
@@ -207,7 +148,7 @@ undecided_classes: []
 ";
 
 const CHALLENGED_ROWS: [Row; 6] = [
-    CHALLENGED,
+    futures_rows::CHALLENGED,
     // The class breaks the package that needs the library itself alone.
     Row {
         packages: "Package: libx
@@ -240,7 +181,7 @@ undecided: []
 undecided_classes: []
 ",
         after: After::Begins("distfuture-certificate 1 challenged plain 10000 3 "),
-        ..CHALLENGED
+        ..futures_rows::CHALLENGED
     },
     // What is provided moves with the version.
     Row {
@@ -266,7 +207,7 @@ undecided: []
 undecided_classes: []
 ",
         after: After::Begins("distfuture-certificate 1 challenged plain 10000 2 8 8\n"),
-        ..CHALLENGED
+        ..futures_rows::CHALLENGED
     },
     // A new version may leave out what its package provides.
     Row {
@@ -281,34 +222,17 @@ Conflicts: abi (>= 2)
 ",
         out: NONE_CHALLENGED,
         after: After::Begins("distfuture-certificate 1 challenged plain 10000 2 "),
-        ..CHALLENGED
+        ..futures_rows::CHALLENGED
     },
     // What is essential must be there, at mode essential alone.
-    ESSENTIAL,
+    essential_rows::CHALLENGED,
     Row {
         words: &["challenged", "packages", "cert"],
         out: NONE_CHALLENGED,
         after: After::Begins("distfuture-certificate 1 challenged plain 10000 2 11 17\n"),
-        ..ESSENTIAL
+        ..essential_rows::CHALLENGED
     },
 ];
-
-/// Its certificate.
-const CERTIFICATE: &str = "distfuture-certificate 1 challenged essential 10000 2 11 18
-q 1 2
-m 1 2
-c 1 1 0 0
-q 1 3
-m 1 2 3
-q 3 4
-m 3 4 5
-q 3 6
-f 1 3 5 6 9 10 11 12 15 18
-q 3 8
-f 2 3 5 7 8 10 11 13 16 18
-c 2 3 0 1 2 1 3 0
-e
-";
 
 /// A front of a certificate with the same numbers at the other mode.
 const OTHER_MODE: &str = "distfuture-certificate 1 challenged plain 10000 2 11 18
@@ -316,21 +240,14 @@ q 1 2
 ";
 
 const CHECK_ROWS: [Row; 2] = [
-    Row {
-        words: &["check", "packages", "cert"],
-        cert: Some(CERTIFICATE),
-        after: After::AsBefore,
-        ..ESSENTIAL
-    },
+    essential_rows::CHECK_CHALLENGED,
     // At mode plain there is a clause less.
     Row {
-        words: &["check", "packages", "cert"],
         cert: Some(OTHER_MODE),
         status: Status::CertificateRefused,
         out: "",
         err: "distfuture: certificate refused at line 1: BadHeader\n",
-        after: After::AsBefore,
-        ..ESSENTIAL
+        ..essential_rows::CHECK_CHALLENGED
     },
 ];
 
@@ -350,7 +267,7 @@ const STOPPED: [Row; 3] = [
         out: "",
         err: "distfuture: too large: Clauses\n",
         after: After::AsBefore,
-        ..CHALLENGED
+        ..futures_rows::CHALLENGED
     },
     Row {
         at_most: Some((What::Certificate, 60)),
@@ -358,7 +275,7 @@ const STOPPED: [Row; 3] = [
         out: "",
         err: "distfuture: too large: Certificate\n",
         after: After::Begins("distfuture-certificate 1 challenged plain 10000 2 "),
-        ..CHALLENGED
+        ..futures_rows::CHALLENGED
     },
 ];
 

@@ -12,6 +12,8 @@ mod essential_rows;
 #[cfg(test)]
 mod follow_rows;
 #[cfg(test)]
+mod fronts;
+#[cfg(test)]
 mod futures_rows;
 #[cfg(test)]
 mod health_rows;

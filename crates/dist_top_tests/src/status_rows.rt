@@ -7,7 +7,7 @@ use std::alloc::AllocError;
 use std::process::Abort;
 use std::test::Fail;
 
-const NUMBERED: [(u8, Row); 12] = [
+const NUMBERED: &[(u8, Row)] = &[
     (0, check_rows::TEN),
     (1, strong_rows::UNDECIDED),
     (2, words_rows::NO_COMMAND),
@@ -40,5 +40,5 @@ fn have_numbers(rt: &(impl Abort + AllocGlobal), numbered: &[(u8, Row)]) -> Resu
 
 #[test]
 fn each_status_has_its_line(rt: HostRuntime) -> Result<(), Fail> {
-    Ok(have_numbers(&rt, &NUMBERED)?)
+    Ok(have_numbers(&rt, NUMBERED)?)
 }
