@@ -72,6 +72,12 @@ FILES = {
 LISTS = {"a list": b"a 1\nb 1\n", "a list of one": b"\t a  1 \n", "a bad list": b"a 1\nx 1\n"}
 TEN_LINES = b"distfuture-certificate 1 strong plain 10000 2 2 1\nq 1\nm 1 2\nq 1 -2\nf 1\ns 1 1 0 2 0\nq 2\nm 2\ns 2 2 0 0\ne\n"
 KINDS = ("strong", "outdated", "challenged")
+LATER = {"a moved library and a new name": stanza("libx", "2") + "\n" + stanza("foo"), "no future": stanza("libx", "1", "Depends: p")}
+JOURNALS = {
+    "an upload, a removal and a new name": b"= upload libx 2\nPackage: libx\nVersion: 2\n\n= new\nPackage: foo\nVersion: 1\nDepends: libx, a | b\n\n= removal foo\n",
+    "a step that is refused": b"= upload libx 2\nPackage: libx\nVersion: 2\n\n= upload libx 2\n",
+    "nothing": b"",
+}
 
 
 def rows():
@@ -90,6 +96,9 @@ def rows():
     two = FILES["two of which one needs the other"].encode()
     for told, text in (("ten lines", TEN_LINES), ("ten lines with a bad one", TEN_LINES.replace(b"f 1\n", b"f\n")), ("nine lines", TEN_LINES[:-2]), ("a word", b"word"), ("nothing", b"")):
         yield f"check of {told}", ["check", "/packages", "/cert"], {"packages": two, "cert": text}
+    library = FILES["a library that may go too far"].encode()
+    for told, text in LATER.items():
+        yield f"steps to {told}", ["steps", "/packages", "/list"], {"packages": library, "list": text.encode()}
     for told, text in (("a fault", b"Package: a\nVersion: 1\nDescription\n"), ("a faulty relation", b"Package: a\nVersion: 1\nDepends: b (= 1_)\n"),
                        ("a clash", two + b"\nPackage: a\nVersion: 1-0\n")):
         yield f"classes of {told}", ["classes", "/packages"], {"packages": text}
@@ -149,6 +158,9 @@ def main(program, *chosen):
         if words[:1] and words[0] in KINDS and whole[0] < 2 and whole[3] not in certs.values():
             certs[told] = whole[3]
             todo.append((f"check of what {told} wrote", ["check", *words[1:3]], {**files, "cert": whole[3]}))
+            if words[0] == "challenged" and "library" in told:
+                for journal, text in JOURNALS.items():
+                    todo.append((f"follow of {journal} by what {told} wrote", ["follow", *words[1:3], "/list"], {**files, "cert": whole[3], "list": text}))
         passed = 0
         for lasts in (False, True):
             for number in range(1, count + 1):
