@@ -4,4 +4,6 @@
 #[cfg(test)]
 mod claim_reports;
 #[cfg(test)]
+mod explained;
+#[cfg(test)]
 mod reports;
