@@ -145,18 +145,19 @@ CHAPTERS = [
     ("Control text (Debian Policy 5.1)", ["dist_control"]),
     ("Packages, match, conflict, healthy installations (Debian Policy chapter 7)", ["dist_repo"]),
     ("Packages files", ["dist_package"]),
-    ("LIST, and the health of a set", ["dist_list", "dist_now"]),
+    ("LIST, and the health of a set", ["dist_list", "dist_asked", "dist_now"]),
     ("Source clusters, and classes of later versions", ["dist_cluster", "dist_classes"]),
     ("Futures, and the space that stands for them", ["dist_future", "dist_space", "dist_space_clauses"]),
     ("Archives that change by steps, and journals of them", ["dist_archive", "dist_journal"]),
-    ("Clauses, what follows, and what is new", ["dist_clause", "dist_derive"]),
+    ("Clauses, what follows, and what is new", ["dist_lanes", "dist_clause", "dist_derive"]),
+    ("Files whose lines answer one question", ["dist_findings"]),
     ("Explanations", ["dist_explain"]),
     ("Repairs", ["dist_repair"]),
     ("Certificates", ["dist_cert"]),
     ("Files that are judged line by line", ["dist_judge"]),
     ("What certificates speak of, and what their claims mean", ["dist_subject", "dist_check"]),
     ("What a question answers", ["dist_solver"]),
-    ("What a sweep may write", ["dist_sweep", "dist_strong"]),
+    ("What a sweep may write, and how much that is", ["dist_sweep", "dist_strong", "dist_challenge", "dist_budget"]),
     ("What the checker keeps", ["dist_check_group", "dist_check_state"]),
     ("Reports", ["dist_report", "dist_history"]),
     ("Made archives, and trials on them", ["dist_generate", "dist_trial"]),
@@ -250,6 +251,10 @@ def part(wanted):
 
 def page(found):
     others = public_reached() - set(found)
+    known = {crate for _, crates in CHAPTERS for crate in crates}
+    lost = sorted({path.split("/")[1] for path, _ in [*found, *others] if path.startswith("crates/")} - known)
+    if lost:
+        sys.exit(f"no chapter has {', '.join(lost)}")
     return "\n".join([HEAD.format(count=len(found)), *part(lambda *at: at in found), SECOND, *part(lambda *at: at in others)])
 
 
