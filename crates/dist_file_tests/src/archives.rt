@@ -1,10 +1,7 @@
 //! Archives of some sizes and seeds. The expected texts and numbers are those of another program.
-ghost use Rattle.std.specs.Prelude.{◌≤◌};
-ghost use Rattle.dist_base.specs.declared.TheConstants.{MAX_SIZE};
-
+use dist_base::MAX_SIZE;
 use dist_generate::generate;
-use std::alloc::{AllocError, Global};
-use std::test::Fail;
+use std::alloc::Global;
 
 const ONE: &str = "Package: g0
 Version: 1.2
@@ -46,22 +43,37 @@ Depends: g1 | g0 (<< 2), g1
 
 ";
 
-/// Whether the archive of a size and a seed has this text.
-fn is_text(alloc: Global, size: u32, seed: u32, wanted: &str) -> Result<bool, AllocError>
-    requires some { 1 ≤ size }
-    requires few { size ≤ MAX_SIZE }
-{
-    let text = generate(alloc, size, seed)?;
-    Ok(text.as_slice() == wanted.as_bytes())
+/// The archive of a size and a seed.
+fn archive(alloc: Global, size: u32, seed: u32) -> Option<Vec<u8>> {
+    if size >= 1 && size <= MAX_SIZE {
+        generate(alloc, size, seed).ok()
+    } else {
+        None
+    }
+}
+
+/// A size, a seed, and the text of their archive.
+type Text = (u32, u32, &'static str);
+
+const TEXTS: &[Text] = &[(1, 0, ONE), (2, 0, TWO), (3, 1, THREE)];
+
+/// Whether an archive has the text of its row.
+fn has_text(alloc: Global, row: &Text) -> bool {
+    match archive(alloc, row.0, row.1) {
+        Some(text) => {
+            let so = text.as_slice() == row.2.as_bytes();
+            drop(text);
+            so
+        }
+        None => false,
+    }
 }
 
 #[test]
-fn small_archives(rt: HostRuntime) -> Result<(), Fail> {
-    let alloc = rt.alloc();
-    assert!(rt; is_text(alloc, 1, 0, ONE)?);
-    assert!(rt; is_text(alloc, 2, 0, TWO)?);
-    assert!(rt; is_text(alloc, 3, 1, THREE)?);
-    Ok(())
+fn small_archives(rt: HostRuntime) {
+    for row in TEXTS {
+        assert!(rt; has_text(rt.alloc(), row), "size {}", row.0);
+    }
 }
 
 /// A sum over all bytes in their order.
@@ -73,24 +85,31 @@ fn sum_of(text: &[u8]) -> u32 {
     sum
 }
 
-/// How many bytes the archive of a size and a seed has, and their sum.
-fn measure(alloc: Global, size: u32, seed: u32) -> Result<(usize, u32), AllocError>
-    requires some { 1 ≤ size }
-    requires few { size ≤ MAX_SIZE }
-{
-    let text = generate(alloc, size, seed)?;
-    Ok((text.len(), sum_of(&text)))
+/// A size, a seed, how many bytes their archive has, and the sum of these.
+type Measure = (u32, u32, usize, u32);
+
+const MEASURES: &[Measure] = &[
+    (1, 4_294_967_295, 55, 3_955_692_927),
+    (60, 1, 4514, 3_249_536_331),
+    (2000, 0, 162_400, 2_249_512_506),
+    (2000, 4_294_967_295, 162_503, 3_412_826_657),
+];
+
+/// Whether an archive has the measure of its row.
+fn has_measure(alloc: Global, row: &Measure) -> bool {
+    match archive(alloc, row.0, row.1) {
+        Some(text) => {
+            let so = text.len() == row.2 && sum_of(&text) == row.3;
+            drop(text);
+            so
+        }
+        None => false,
+    }
 }
 
 #[test]
-fn larger_archives(rt: HostRuntime) -> Result<(), Fail> {
-    let alloc = rt.alloc();
-    assert_eq!(rt; measure(alloc, 1, 4_294_967_295)?, (55, 3_955_692_927));
-    assert_eq!(rt; measure(alloc, 60, 1)?, (4514, 3_249_536_331));
-    assert_eq!(rt; measure(alloc, 2000, 0)?, (162_400, 2_249_512_506));
-    assert_eq!(rt;
-        measure(alloc, 2000, 4_294_967_295)?,
-        (162_503, 3_412_826_657)
-    );
-    Ok(())
+fn larger_archives(rt: HostRuntime) {
+    for row in MEASURES {
+        assert!(rt; has_measure(rt.alloc(), row), "size {} of {}", row.0, row.1);
+    }
 }

@@ -1,14 +1,12 @@
 //! The words of each command, and words that are of none.
 use dist_cert::CertKind;
 use dist_samples::words_of;
-use dist_words::{Command, WordsError, command_of};
-use std::alloc::{AllocError, Global};
-use std::process::Abort;
-use std::test::Fail;
+use dist_words::{Command, FollowFiles, SweepWords, WordsError, command_of};
+use std::alloc::Global;
 
 /// What is read of words: the kind and the options of a sweep of the files f and g, or another command of these files, or of f
 /// alone, or the size and the seed of a trial.
-#[derive(Clone, Copy, Debug, PartialEq, Eq)]
+#[derive(Clone, Copy, PartialEq, Eq)]
 enum Told {
     Sweep(CertKind, u32, bool),
     Health,
@@ -20,41 +18,67 @@ enum Told {
     Refused,
 }
 
+/// What is told, where the files are the given ones.
+fn told_if(are_given: bool, told: Told) -> Option<Told> {
+    if are_given { Some(told) } else { None }
+}
+
+/// Whether two files are f and g.
+fn are_both(one: &str, other: &str) -> bool {
+    one == "f" && other == "g"
+}
+
+/// What is read of a sweep.
+fn sweep_of(read: &SweepWords<'_>) -> Option<Told> {
+    told_if(
+        are_both(read.packages, read.cert),
+        Told::Sweep(read.kind, read.limit, read.essential),
+    )
+}
+
+/// Whether the three files of a journal are f, g and h.
+fn are_three(files: &FollowFiles<'_>) -> bool {
+    are_both(files.packages, files.cert) && files.journal == "h"
+}
+
 /// What is read of a command, where its files are f and g.
 fn read_of(command: &Command<'_>) -> Option<Told> {
     match command {
-        Command::Sweep(read) if read.packages == "f" && read.cert == "g" => {
-            Some(Told::Sweep(read.kind, read.limit, read.essential))
-        }
-        Command::Health(files) if files.packages == "f" && files.list == "g" => Some(Told::Health),
-        Command::Classes("f") => Some(Told::Classes),
-        Command::Check(files) if files.packages == "f" && files.cert == "g" => Some(Told::Check),
-        Command::Steps(files) if files.packages == "f" && files.later == "g" => Some(Told::Steps),
-        Command::Follow(files)
-            if files.packages == "f" && files.cert == "g" && files.journal == "h" => {
-            Some(Told::Follow)
-        }
+        Command::Sweep(read) => sweep_of(read),
+        Command::Health(files) => told_if(are_both(files.packages, files.list), Told::Health),
+        Command::Classes(file) => told_if(*file == "f", Told::Classes),
+        Command::Check(files) => told_if(are_both(files.packages, files.cert), Told::Check),
+        Command::Steps(files) => told_if(are_both(files.packages, files.later), Told::Steps),
+        Command::Follow(files) => told_if(are_three(files), Told::Follow),
         Command::Try(sizes) => Some(Told::Try(sizes.size, sizes.seed)),
-        _ => None,
+    }
+}
+
+/// What is read of words of a command or of none.
+fn read_words(alloc: Global, words: &[String]) -> Option<Told> {
+    match command_of(alloc, words) {
+        Ok(command) => read_of(&command),
+        Err(WordsError::BadWords) => Some(Told::Refused),
+        Err(WordsError::NoMemory) => None,
     }
 }
 
 /// What is read of words.
-fn read(alloc: Global, list: &[&str]) -> Result<Option<Told>, AllocError> {
-    let words = words_of(alloc, list)?;
-    let read = match command_of(alloc, &words) {
-        Ok(command) => read_of(&command),
-        Err(WordsError::BadWords) => Some(Told::Refused),
-        Err(WordsError::NoMemory) => None,
-    };
-    drop(words);
-    Ok(read)
+fn read(alloc: Global, list: &[&str]) -> Option<Told> {
+    match words_of(alloc, list) {
+        Ok(words) => {
+            let read = read_words(alloc, &words);
+            drop(words);
+            read
+        }
+        Err(_) => None,
+    }
 }
 
 /// Words, and what is read of them.
 type Row = (&'static [&'static str], Told);
 
-const COMMANDS: [Row; 11] = [
+const COMMANDS: &[Row] = &[
     (
         &["strong", "f", "g"],
         Told::Sweep(CertKind::Strong, 10_000, false),
@@ -91,19 +115,14 @@ const COMMANDS: [Row; 11] = [
     (&["try", "--seed", "0", "--size", "2"], Told::Try(2, 0)),
 ];
 
-fn hold(rt: &(impl Abort + AllocGlobal), rows: &[Row]) -> Result<(), AllocError> {
-    for (list, wanted) in rows {
-        assert_eq!(rt; read(rt.alloc(), list)?, Some(*wanted), "{list:?}");
-    }
-    Ok(())
-}
-
 #[test]
-fn commands_are_read(rt: HostRuntime) -> Result<(), Fail> {
-    Ok(hold(&rt, &COMMANDS)?)
+fn commands_are_read(rt: HostRuntime) {
+    for (list, wanted) in COMMANDS {
+        assert!(rt; read(rt.alloc(), list) == Some(*wanted), "{list:?}");
+    }
 }
 
-const OTHERS: [&[&str]; 25] = [
+const OTHERS: &[&[&str]] = &[
     &[],
     &["strong", "f"],
     &["health", "f", "g", "--limit", "3"],
@@ -131,14 +150,9 @@ const OTHERS: [&[&str]; 25] = [
     &["--help"],
 ];
 
-fn hold_others(rt: &(impl Abort + AllocGlobal), lists: &[&[&str]]) -> Result<(), AllocError> {
-    for list in lists {
-        assert_eq!(rt; read(rt.alloc(), list)?, Some(Told::Refused), "{list:?}");
-    }
-    Ok(())
-}
-
 #[test]
-fn other_words_are_refused(rt: HostRuntime) -> Result<(), Fail> {
-    Ok(hold_others(&rt, &OTHERS)?)
+fn other_words_are_refused(rt: HostRuntime) {
+    for list in OTHERS {
+        assert!(rt; read(rt.alloc(), list) == Some(Told::Refused), "{list:?}");
+    }
 }

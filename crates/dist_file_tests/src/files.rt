@@ -16,7 +16,7 @@ struct Faulty {
 }
 
 /// At least one file for each kind of fault, and files that show which of several faults is the first.
-const FAULTY: [Faulty; 26] = [
+const FAULTY: &[Faulty] = &[
     Faulty {
         text: "Package: a\nVersion: 1\nDescription\n",
         line: 3,
@@ -185,7 +185,7 @@ fn first_without_fault(alloc: Global, rows: &[Faulty]) -> Option<usize> {
 
 #[test]
 fn first_faults(rt: HostRuntime) {
-    assert_eq!(rt; first_without_fault(rt.alloc(), &FAULTY), None);
+    assert_eq!(rt; first_without_fault(rt.alloc(), FAULTY), None);
 }
 
 /// A file of at most so many stanzas, and how many packages it has or why it is refused.
@@ -200,7 +200,7 @@ struct Counted {
 const TWICE: &str =
     "Package: a\nVersion: 1.0\n\nPackage: a\nVersion: 1.0\nArchitecture: amd64\nTag: x\n";
 
-const COUNTED: [Counted; 4] = [
+const COUNTED: &[Counted] = &[
     Counted {
         text: TWICE,
         stanzas: 2,
@@ -236,7 +236,7 @@ fn first_miscounted(alloc: Global, rows: &[Counted]) -> Option<usize> {
 
 #[test]
 fn stanzas_are_counted(rt: HostRuntime) {
-    assert_eq!(rt; first_miscounted(rt.alloc(), &COUNTED), None);
+    assert_eq!(rt; first_miscounted(rt.alloc(), COUNTED), None);
 }
 
 #[test]
