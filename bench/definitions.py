@@ -150,7 +150,7 @@ CHAPTERS = [
     ("Futures, and the space that stands for them", ["dist_future", "dist_space", "dist_space_clauses"]),
     ("Archives that change by steps, and journals of them", ["dist_archive", "dist_journal"]),
     ("Clauses, what follows, and what is new", ["dist_lanes", "dist_clause", "dist_derive"]),
-    ("Files whose lines answer one question", ["dist_findings"]),
+    ("Files whose lines answer one question", ["dist_findings", "dist_inquiry"]),
     ("Explanations", ["dist_explain"]),
     ("Repairs", ["dist_repair"]),
     ("Certificates", ["dist_cert"]),

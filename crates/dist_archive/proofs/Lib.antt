@@ -15,6 +15,7 @@ pub mod RefusalLemmas
 pub mod FitLemmas
 pub mod LeadLemmas
 pub mod StageLemmas
+pub mod SortLemmas
 pub mod PlanLemmas
 pub mod FoundLemmas
 pub mod PlanningLemmas

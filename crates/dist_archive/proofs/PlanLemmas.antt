@@ -13,6 +13,7 @@ use Rattle.dist_archive.specs.declared.step.Step.TheVariants.{Upload, Removal, N
 use Rattle.dist_archive.proofs.ClusterLemmas.{cluster-some}
 use Rattle.dist_archive.proofs.FitLemmas.{cluster-name-decided, held-decided, kept-not_later, moved-later, stay-kept, taken-decided}
 use Rattle.dist_archive.proofs.LeadLemmas.{those}
+use Rattle.dist_archive.proofs.SortLemmas.{sorted}
 use Rattle.dist_archive.proofs.StageLemmas.{plan-leads}
 
 pub steps-for : {X : Type 0} (P : X → Type 0) (Does : X → Step → Type 0) (xs : List X) → ((x : X) → IsDecided (P x))
@@ -57,10 +58,11 @@ module _ (s : SpaceView) (frame : IsFrame s) (later : List Package) (future : Is
   upload : (cluster : ℕ) (c : Package) → IsOfCluster s cluster c → HasLater s.repository later c → (steps : List Step) × IsPart s later cluster steps
   upload cluster c of some =
       let come = those (λ n. IsClusterName s.repository c n.name) (λ n. cluster-name-decided s.repository c n.name) later in
+      let in-order = sorted come.some (come.flat future.one_of_a_name) in
       let at = found-at (λ (n : Package). IsClusterName s.repository c n.name × IsLater s.repository n) later some in
-      let there = (come.exact at.element).1 (contains-at later at.place at.element at.is, at.holds.0) in
-      let first = element-at come.some 0 (omega (arith, there.1)) in
-      let block : PackageList = record { architecture = None; packages = come.some } in
+      let there = (in-order.exact at.element).1 ((come.exact at.element).1 (contains-at later at.place at.element at.is, at.holds.0)) in
+      let first = element-at in-order.list 0 (omega (arith, there.1)) in
+      let block : PackageList = record { architecture = None; packages = in-order.list } in
       let step : Step = Upload cluster first.element.version block in (
         step ∷ [],
         (
@@ -77,7 +79,11 @@ module _ (s : SpaceView) (frame : IsFrame s) (later : List Package) (future : Is
                 is = refl;
                 architecture = refl;
                 is_first = first.is;
-                brings = come.exact;
+                brings = λ n. (
+                  (λ there. (come.exact n).0 ((in-order.exact n).0 there)),
+                  λ both. (in-order.exact n).1 ((come.exact n).1 both),
+                );
+                in_order = in-order.in_order;
               },
             ),
           ),

@@ -287,10 +287,10 @@ module _ (s : SpaceView) (frame : IsFrame s) (later : List Package) (cluster : �
       omega (arith, there.1)
 
   pub upload-pushed : ((c : Package) → IsOfCluster s cluster c → HasLater s.repository later c) → (block : PackageList) (first : Package)
-      (version : List ℕ) (old new : List Step) → block.architecture ≡ None → AreBrought s.repository later members block.packages
+      (version : List ℕ) (old new : List Step) → block.architecture ≡ None → IsInOrder block.packages → AreBrought s.repository later members block.packages
       → slice_get block.packages 0 ≡ Some first → version ≡ first.version → new ≡ old ++ Upload cluster version block ∷ []
       → ArePushed old new (IsPart s later cluster)
-  upload-pushed some block first version old new architecture brought is_first same whole = record {
+  upload-pushed some block first version old new architecture ordered brought is_first same whole = record {
     more = Upload cluster version block ∷ [];
     whole = whole;
     pushed = (
@@ -308,6 +308,7 @@ module _ (s : SpaceView) (frame : IsFrame s) (later : List Package) (cluster : �
             architecture = architecture;
             is_first = is_first;
             brings = cluster-brought some-of.0 some-of.1 block.packages brought;
+            in_order = ordered;
           },
         ),
       ),

@@ -4,6 +4,7 @@ use Rattle.std.specs.Prelude.{◌≡◌, ◌⊎◌, ◌↔◌, ℕ, zero, suc, �
 use Rattle.std.specs.Prelude.{IsSomeAnd, length, slice_get}
 use Rattle.std.specs.declared.cmp.Ordering.TheVariants.{Equal}
 use Rattle.dist_version.specs.Order.{version_cmp}
+use Rattle.dist_repo.specs.Order.{IsInOrder}
 use Rattle.dist_repo.specs.PackageList.{PackageList, IsPackageAnd}
 use Rattle.dist_repo.specs.declared.package.Package.{Package}
 use Rattle.dist_classes.specs.NewVersion.{IsNewOf, IsOfNewName}
@@ -56,7 +57,8 @@ abbrev pub HasLater : PackageList → (later : List Package) → (c : Package) �
 HasLater r later c = Any (λ n. IsClusterName r c n.name × IsLater r n) later
 
 -- The upload of c's cluster, which has a number. It brings all that the later archive has of the names of the cluster,
--- at the version of the first package that it brings, for no architecture.
+-- in the order of names and versions, at the version of the first package that it brings, for no architecture. So the
+-- later archive settles the upload: in order there is one list of what it brings, and one package is first.
 pub record IsUploadOf (r : PackageList) (later : List Package) (cluster : ℕ) (c : Package) (step : Step) : Type 0 where
   pub block : PackageList
   pub first : Package
@@ -64,6 +66,7 @@ pub record IsUploadOf (r : PackageList) (later : List Package) (cluster : ℕ) (
   pub architecture : block.architecture ≡ None
   pub is_first : slice_get block.packages 0 ≡ Some first
   pub brings : (n : Package) → Contains block.packages n ↔ (Contains later n × IsClusterName r c n.name)
+  pub in_order : IsInOrder block.packages
 
 -- a removal for each of some members of the repository whose name the later archive does not have
 abbrev pub AreRemovals : PackageList → (later : List Package) → (members : List ℕ) → List Step → Type 0

@@ -75,6 +75,7 @@ a_is_uploaded = record {
     (λ there. (there, (a, a-in, ap (λ (x : Package). x.name) (only later_a n there)))),
     λ both. both.0,
   );
+  in_order = λ i j d less short. absurd (omega (arith, less, short));
 }
 
 -- Where b is left as it was, a is removed, and nothing else.

@@ -1,6 +1,6 @@
 //! The plan of a later archive in which all fits.
 ghost use Rattle.std.specs.Prelude.{◌≡◌, ◌+◌, ◌<◌, ◌≤◌, ◌∷◌, [], All, Contains, IfOk, IsOk, MatchResult, None, OnOk, length};
-ghost use Rattle.dist_repo.specs.Order.{IsFlat};
+ghost use Rattle.dist_repo.specs.Order.{IsFlat, IsInOrder};
 ghost use Rattle.dist_repo.specs.declared.package.Package.{Package};
 ghost use Rattle.dist_future.specs.Future.{IsTaken};
 ghost use Rattle.dist_archive.specs.FoundPrivate.{AllFit, AreChecked, IsFound};
@@ -78,6 +78,7 @@ fn block_of(
     requires members { AreMembers space.now.repository members.now }
     requires flat { IsFlat later.now.packages }
     ensures architecture { IfOk result (λ block. block.architecture ≡ None) }
+    ensures in_order { IfOk result (λ block. IsInOrder block.packages) }
     ensures brings { IfOk result (λ block. AreBrought space.now.repository later.now.packages members.now block.packages) }
 {
     // What this call tells is that packages are few.

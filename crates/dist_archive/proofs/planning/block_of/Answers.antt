@@ -2,6 +2,7 @@ use Rattle.std.proofs.Common.{◌≡◌, ◌≤◌, ℕ, List, arith, get_or, le
 use Rattle.std.specs.Prelude.{Contains}
 use Rattle.std.proofs.lemmas.Option.{slice_get-get_or}
 use Rattle.dist_repo.specs.Held.{Held, packages_of}
+use Rattle.dist_repo.specs.Order.{IsInOrder}
 use Rattle.dist_archive.specs.PlanningPrivate.{AreBrought, HoldsMore}
 use Rattle.std.proofs.lemmas.Result.{IfOk-weaker}
 use Rattle.dist_repo.specs.declared.package.Package.{Package}
@@ -32,6 +33,11 @@ loop-member-preserved c = record {
       (subst (λ name. HoldsMore c.loop-member.builder c.put_named.new.builder (λ n. Contains c.args.later.now.packages n × (n.name ≡ name)))
       c.bytes.ensures.value c.in_ok-put_named.ensures.holds);
 }
+
+pub returns-clause-in_order : goal.returns-clause-in_order
+returns-clause-in_order c =
+    IfOk-weaker c.finish.result (λ b. b.packages ≡ packages_of c.loop-member.builder) (λ b. IsInOrder b.packages)
+    (λ b is. subst (λ (l : List Package). IsInOrder l) (sym is) c.finish.ensures.in_order) c.finish.ensures.packages
 
 pub returns-clause-brings : goal.returns-clause-brings
 returns-clause-brings c =

@@ -1,0 +1,14 @@
+mod Lists
+mod Opened
+mod Lines
+mod OneLine
+mod DerivedLines
+mod Answered
+mod Closing
+mod Asked
+mod EdgeLines
+mod Found
+mod WholeFile
+mod Noted
+mod Stopped
+mod WrittenFile

@@ -1,0 +1,41 @@
+-- A question that was asked and noted.
+use Rattle.std.proofs.Common.{◌≡◌, ℕ, List, [], ◌∷◌, ◌++◌, Result, IfErr, OnOk, refl, sym, subst, append-nil}
+use Rattle.dist_outside.specs.DeskView.{DeskView, FileGrew}
+use Rattle.dist_outside.specs.declared.trouble.WorkError.TheVariants.{NoMemory}
+use Rattle.dist_solver.specs.declared.answers.Answer.{Answer}
+use Rattle.dist_cert.specs.declared.records.CertRecord.{CertRecord}
+use Rattle.dist_cert.specs.Form.{Word}
+use Rattle.dist_findings.specs.Findings.{findings}
+use Rattle.dist_findings.specs.declared.finding.Finding.{Finding}
+use Rattle.dist_sweep.specs.Asking.{AskerView, question_lines}
+use Rattle.dist_sweep.specs.ScriptLaws.{BeginsLaw, TwiceLaw}
+use Rattle.dist_sweep.specs.Words.{closing_line}
+use Rattle.dist_inquiry.specs.AnswerText.{IsNotedAt, NoteMore, Noting, finding_of}
+use Rattle.dist_inquiry.specs.Asking.{AskMore, AskStops}
+use Rattle.dist_inquiry.specs.InquiryLaws.{stops-after, stops-for-memory}
+use Rattle.dist_inquiry.proofs.Found.{question-finds}
+
+-- what is noted of one finding more
+abbrev pub NotesOne : {N : Type 0} → Noting N → N → N → Finding → Type 0
+NotesOne Noted notes after found = (numbers : List ℕ) (before : List Finding) → Noted numbers before notes
+    → Noted numbers (before ++ found ∷ []) after
+
+pub asked-and-noted : {N : Type 0} (Noted : Noting N) (old new : DeskView) (a b : AskerView) (notes after : N) (question : List Word) (answer : Answer)
+    (found : Finding) → found ≡ finding_of question answer → AskMore old new a b question answer → NotesOne Noted notes after found
+    → NoteMore Noted old new a b notes after question answer
+asked-and-noted Noted old new a b notes after question answer found is asks notes-one g numbers before at =
+    let asked = asks g before at.at in
+    record {
+      asked = asked;
+      finds = question-finds before question asked.between answer asked.only_derived;
+      noted = subst (λ (f : Finding). Noted numbers (findings before ++ f ∷ []) after) is (notes-one numbers (findings before) at.noted);
+    }
+
+-- there was no memory behind a question
+pub stops-noted : BeginsLaw → TwiceLaw → (old new : DeskView) (a b : AskerView) (question : List Word) (answer : Answer)
+    → AskMore old new a b question answer → AskStops a question old new NoMemory
+stops-noted begins twice old new a b question answer asks g before at =
+    let asked = asks g before at in
+    let added : List CertRecord = question_lines question asked.between (closing_line answer) in
+    stops-after twice g before added old new new NoMemory asked.grew
+    (stops-for-memory g (before ++ added) b.writer new new asked.at.writer (begins new))

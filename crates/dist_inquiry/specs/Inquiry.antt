@@ -1,0 +1,151 @@
+-- The lines that were written so far of a file of one question, and where the writing stops.
+use Rattle.std.specs.Prelude.{◌≡◌, ◌⊎◌, ℕ, ◌<◌, ◌≤◌, false, List, [], ◌∷◌, ◌++◌, All, Any, length}
+use Rattle.std.specs.List.{list_any}
+use Rattle.dist_base.specs.Front.{IsFrontOf}
+use Rattle.dist_clause.specs.ClauseList.{literal_count}
+use Rattle.dist_outside.specs.Counts.{Rose}
+use Rattle.dist_outside.specs.DeskView.{DeskView, FileGrew}
+use Rattle.dist_outside.specs.declared.limits.Limits.{Limits}
+use Rattle.dist_outside.specs.declared.trouble.What.{What}
+use Rattle.dist_outside.specs.declared.trouble.What.TheVariants.{Lines, LineLiterals, RecordLine, Certificate}
+use Rattle.dist_outside.specs.declared.trouble.WorkError.{WorkError}
+use Rattle.dist_outside.specs.declared.trouble.WorkError.TheVariants.{WriteFault, TooLarge, NoMemory}
+use Rattle.dist_cert.specs.declared.faults.CertCause.{CertCause}
+use Rattle.dist_cert.specs.declared.records.CertRecord.{CertRecord}
+use Rattle.dist_cert.specs.declared.records.CertRecord.TheVariants.{Question, Derived, Refuted, Installation, Undecided}
+use Rattle.dist_cert.specs.declared.records.Header.{Header}
+use Rattle.dist_cert.specs.FileLines.{file_text, lines_text}
+use Rattle.dist_cert.specs.Form.{HasForm, is_end, record_text}
+use Rattle.dist_cert.specs.Groups.{derived}
+use Rattle.dist_cert.specs.LineRules.{HasRecordFault}
+use Rattle.dist_cert.specs.Part.{AreFewHints, AsksSome, IsNextDerived}
+use Rattle.dist_cert.specs.PartByRecordsLaws.{IsShortLine}
+use Rattle.dist_cert.specs.Subject.{Matter}
+use Rattle.dist_cert.specs.Writing.{WriterView, ended}
+use Rattle.dist_findings.specs.AnswerFiles.{Inputs}
+use Rattle.dist_findings.specs.Unclaimed.{clauses_alone, limit_alone}
+use Rattle.dist_sweep.specs.Script.{KeepsLines}
+
+-- What a file is written for: its first line, after how many derived lines a question is left undecided, what its lines
+-- are judged by, and the limits.
+pub record Setting : Type 0 where
+  pub first : List ℕ
+  pub limit : ℕ
+  pub inputs : Inputs
+  pub limits : Limits
+
+abbrev pub matter_in : Setting → Matter
+matter_in g = clauses_alone g.inputs.variables g.inputs.clauses
+
+abbrev pub header_in : Setting → Header
+header_in g = limit_alone g.limit
+
+-- ---- lines
+
+-- What a line keeps besides having no fault: a derived line, an installation and an answer come to a question, one
+-- installation or answer at most to each. The end and claims are none of these lines.
+abbrev pub IsNextLine : Setting → List CertRecord → CertRecord → Type 0
+IsNextLine g before (Question question) = Unit {0}
+IsNextLine g before (Derived literals hints) = IsNextDerived (matter_in g) (header_in g) before literals
+    × AreFewHints (matter_in g) hints
+IsNextLine g before (Refuted hints) = AsksSome before × AreFewHints (matter_in g) hints
+IsNextLine g before (Installation variables) = AsksSome before
+IsNextLine g before Undecided = AsksSome before
+IsNextLine g before step = ⊥
+
+-- The line of this record has no fault behind these lines, whatever its length, and may come next.
+pub record IsLine (g : Setting) (before : List CertRecord) (step : CertRecord) : Type 0 where
+  pub form : HasForm (record_text step) step
+  pub not_ended : list_any is_end before ≡ false
+  pub faultless : (cause : CertCause) → ¬ HasRecordFault (matter_in g) (header_in g) before step cause
+  pub next : IsNextLine g before step
+
+-- each line may come next, behind those before it
+abbrev pub AllNext : Setting → List CertRecord → List CertRecord → Type 0
+AllNext g before [] = Unit {0}
+AllNext g before (step ∷ steps) = IsLine g before step × AllNext g (before ++ step ∷ []) steps
+
+-- Lines that may be written so far. They pass no number.
+pub record AreWritten (g : Setting) (lines : List CertRecord) : Type 0 where
+  pub next : AllNext g [] lines
+  pub short : All (IsShortLine g.limits) lines
+  pub first_short : length g.first < g.limits.record_line
+  pub kept : KeepsLines g.limits lines
+  pub bytes : length (file_text g.first lines) ≤ g.limits.certificate
+
+-- the writer behind some lines
+abbrev pub writer_at : Setting → List CertRecord → WriterView
+writer_at g lines = record {
+  line_limit = g.limits.record_line;
+  whole_limit = g.limits.certificate;
+  written = length (file_text g.first lines);
+}
+
+-- The lines are written, and the writer stands behind them.
+pub record IsWriter (g : Setting) (lines : List CertRecord) (w : WriterView) : Type 0 where
+  pub written : AreWritten g lines
+  pub stands : w ≡ writer_at g lines
+
+-- ---- where the writing stops
+
+-- The lines pass a number: of derived lines, of literals in them, of bytes in a line, or of bytes.
+abbrev pub Passes : Setting → List CertRecord → What → Type 0
+Passes g steps Lines = g.limits.lines < length (derived steps)
+Passes g steps LineLiterals = g.limits.line_literals < literal_count (derived steps)
+Passes g steps RecordLine = (g.limits.record_line < length (ended g.first))
+    ⊎ Any (λ step. g.limits.record_line < length (ended (record_text step))) steps
+Passes g steps Certificate = g.limits.certificate < length (file_text g.first steps)
+Passes g steps what = ⊥
+
+-- one line more would pass a number
+abbrev pub IsPassed : Setting → List CertRecord → WorkError → Type 0
+IsPassed g lines (TooLarge what) = (step : CertRecord) × IsLine g lines step × Passes g (lines ++ step ∷ []) what
+IsPassed g lines error = ⊥
+
+-- The bytes are a front of the line that comes next.
+abbrev pub IsCutOff : Setting → List CertRecord → List ℕ → Type 0
+IsCutOff g lines cut = (step : CertRecord) × IsLine g lines step × IsFrontOf (ended (record_text step)) cut
+
+-- why the writing stops, with a cut line or without one
+abbrev pub StopsBy : Setting → List CertRecord → List ℕ → DeskView → DeskView → WorkError → Type 0
+StopsBy g lines cut old new WriteFault = Rose old.write_faults new.write_faults
+StopsBy g lines cut old new (TooLarge what) = (cut ≡ []) × IsPassed g lines (TooLarge what)
+StopsBy g lines cut old new NoMemory = Unit {0}
+StopsBy g lines cut old new error = ⊥
+
+-- The writing went on from some lines and stopped: more lines were written, and perhaps a front of one more.
+pub record Stops (g : Setting) (before : List CertRecord) (old new : DeskView) (error : WorkError) : Type 0 where
+  pub added : List CertRecord
+  pub cut : List ℕ
+  pub written : AreWritten g (before ++ added)
+  pub grew : FileGrew (lines_text added ++ cut) old new
+  pub cut_off : (cut ≡ []) ⊎ IsCutOff g (before ++ added) cut
+  pub by : StopsBy g (before ++ added) cut old new error
+
+-- ---- putting one line
+
+-- Where the writer stood behind some lines, and the line may come next and keeps the numbers, it stands behind the
+-- line.
+abbrev pub PutMore : WriterView → WriterView → CertRecord → Type 0
+PutMore w after step = (g : Setting) (before : List CertRecord) → IsWriter g before w → IsLine g before step
+    → KeepsLines g.limits (before ++ step ∷ []) → IsWriter g (before ++ step ∷ []) after
+
+-- or the writing stops there
+abbrev pub PutStops : WriterView → CertRecord → DeskView → DeskView → WorkError → Type 0
+PutStops w step old new error = (g : Setting) (before : List CertRecord) → IsWriter g before w → IsLine g before step
+    → Stops g before old new error
+
+-- ---- putting lines one after another
+
+abbrev pub PutAll : WriterView → WriterView → List CertRecord → Type 0
+PutAll w after steps = (g : Setting) (before : List CertRecord) → IsWriter g before w → AllNext g before steps
+    → KeepsLines g.limits (before ++ steps) → IsWriter g (before ++ steps) after
+
+abbrev pub PutAllStops : WriterView → List CertRecord → DeskView → DeskView → WorkError → Type 0
+PutAllStops w steps old new error = (g : Setting) (before : List CertRecord) → IsWriter g before w
+    → AllNext g before steps → KeepsLines g.limits (before ++ steps) → Stops g before old new error
+
+-- the writer stands behind a front of them
+abbrev pub PutFront : WriterView → WriterView → (steps front : List CertRecord) → Type 0
+PutFront w after steps front = (g : Setting) (before : List CertRecord) → IsWriter g before w → AllNext g before steps
+    → KeepsLines g.limits (before ++ steps) → IsWriter g (before ++ front) after

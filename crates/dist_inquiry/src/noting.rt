@@ -1,0 +1,73 @@
+//! What questions find, noted by the kind of file.
+ghost use Rattle.std.specs.Prelude.{◌≡◌, ◌≤◌, IfErr, IfOk};
+ghost use Rattle.dist_outside.specs.Files.{IsWriting};
+ghost use Rattle.dist_cert.specs.Form.{AreLiterals};
+ghost use Rattle.dist_findings.specs.Findings.{IsFormed};
+ghost use Rattle.dist_sweep.specs.Asking.{IsOver};
+ghost use Rattle.dist_sweep.specs.Script.{Grows};
+ghost use Rattle.dist_sweep.specs.Words.{IsAnswerOver};
+ghost use Rattle.dist_inquiry.specs.AnswerText.{NoteMore, finding_of};
+ghost use Rattle.dist_inquiry.specs.Asking.{AskStops};
+
+use crate::asker::Inquirer;
+use dist_cert::Items;
+use dist_findings::{Answering, Finding};
+use dist_outside::{Desk, WorkError, file_grows};
+use dist_solver::Answer;
+use dist_sweep::true_variables;
+use std::alloc::{AllocError, Global};
+
+/// What a question finds.
+fn finding_of(
+    alloc: Global,
+    question: &[(u32, bool)],
+    answer: &Answer,
+    variables: u32,
+) -> Result<Finding, AllocError>
+    requires form { AreLiterals question.now }
+    requires over { IsAnswerOver variables answer.now }
+    ensures value { IfOk result (λ finding. finding ≡ finding_of question.now answer.now) }
+    ensures form { IfOk result IsFormed }
+{
+    match answer {
+        Answer::Found(values) => {
+            let members = true_variables(alloc, values, variables)?;
+            Ok(Finding::Installed(Items::from_vec(members)))
+        }
+        Answer::Refuted(_) => {
+            let literals = question.to_vec(alloc)?;
+            Ok(Finding::Refuted(Items::from_vec(literals)))
+        }
+        Answer::Undecided => {
+            let literals = question.to_vec(alloc)?;
+            Ok(Finding::LeftUndecided(Items::from_vec(literals)))
+        }
+    }
+}
+
+/// Asks a question, writes its lines, and notes what it finds.
+pub fn ask_and_note<D: Desk, A: Answering>(
+    alloc: Global,
+    answering: &A,
+    inquirer: &mut Inquirer,
+    notes: &mut A::Notes,
+    desk: &mut D,
+    question: &[(u32, bool)],
+) -> Result<Answer, WorkError>
+    requires writing { IsWriting (D.view desk.old).mode }
+    requires limit { 1 ≤ inquirer.old.limit }
+    requires question { IsOver inquirer.old.log.variables question.now }
+    ensures ok { IfOk result (NoteMore (A.noted answering.now) (D.view desk.old) (D.view desk.new) inquirer.old inquirer.new notes.old notes.new question.now) }
+    ensures err { IfErr result (AskStops inquirer.old question.now (D.view desk.old) (D.view desk.new)) }
+    ensures over { IfOk result (IsAnswerOver inquirer.old.log.variables) }
+    ensures variables { inquirer.new.log.variables ≡ inquirer.old.log.variables }
+    ensures limit { inquirer.new.limit ≡ inquirer.old.limit }
+    ensures grows { Grows (D.view desk.old) (D.view desk.new) }
+{
+    file_grows();
+    let variables = inquirer.variables();
+    let answer = inquirer.ask(desk, question)?;
+    let finding = finding_of(alloc, question, &answer, variables)?;
+    answering.note(notes, finding)?;
+    Ok(answer)
+}
