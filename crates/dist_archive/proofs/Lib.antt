@@ -24,3 +24,4 @@ pub mod ReachLemmas
 pub mod MovedLemmas
 pub mod GrowLemmas
 pub mod OneLemmas
+pub mod OnePlanLemmas

@@ -14,7 +14,7 @@ use Rattle.dist_repo.specs.TotalLaws.{package_total}
 use Rattle.dist_repo.specs.declared.package.Package.{Package}
 use Rattle.dist_archive.proofs.LeadLemmas.{cons-cases, cons-head, cons-later}
 
-abbrev Below : Package → Package → Type 0
+abbrev pub Below : Package → Package → Type 0
 Below p q = package_cmp p q ≡ Less
 
 same-name : (a b : List ℕ) → slice_cmp nat_cmp a b ≡ Equal → a ≡ b

@@ -21,11 +21,12 @@ pub fn steps_reach_futures()
     ensures reached { (s : SpaceView) (archive : List Package) → IsSpace s → IsReached s archive → IsFuture s.repository archive }
 {}
 
-/// The archives that steps reach from a repository are exactly its futures: each future has a plan, which leads to it, and of which
+/// The archives that steps reach from a repository are exactly its futures: each future has one plan, which leads to it, and of which
 /// no step is refused. A list of packages under different names is a future exactly where each of them fits.
 pub fn futures_are_reached()
     ensures exactly { (s : SpaceView) (archive : List Package) → IsSpace s → IsReached s archive ↔ IsFuture s.repository archive }
     ensures plan { (s : SpaceView) (later : List Package) → IsSpace s → IsFuture s.repository later → (steps : List Step) × IsPlan s later steps }
+    ensures one { (s : SpaceView) (later : List Package) (steps other : List Step) → IsSpace s → IsPlan s later steps → IsPlan s later other → steps ≡ other }
     ensures leads { (s : SpaceView) (later : List Package) (steps : List Step) → IsSpace s → IsFuture s.repository later → IsPlan s later steps
         → Lead s steps s.repository.packages later }
     ensures taken { (s : SpaceView) (later : List Package) (steps : List Step) → IsSpace s → IsFuture s.repository later → IsPlan s later steps

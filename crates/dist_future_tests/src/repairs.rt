@@ -3,7 +3,10 @@ use crate::spaces::small_space;
 use dist_cert::{CertCause, CertFault};
 use dist_future::Space;
 use dist_outside::{Limits, MemoryDesk, WorkError};
-use dist_repair::{Repair, RepairHeader, RepairVerdict, accepted_repairs_hold, check_repair};
+use dist_repair::{
+    Repair, RepairHeader, RepairVerdict, accepted_repairs_hold, check_repair,
+    repairs_have_one_answer,
+};
 use std::alloc::Global;
 use std::process::Abort;
 
@@ -46,6 +49,17 @@ const ROWS: &[Row] = &[
         LATER,
         "distfuture-repair 1 10000 2 15 23 2 0\nm 3 6 7 12 13 14 15\nq -15 3\nf 12 7 18 21 22\ne\n",
         Told::Bounds(1, 1, false, Some(1)),
+    ),
+    // Counted up to one cluster, with a question on none, and one on one.
+    (
+        LATER,
+        "distfuture-repair 1 10000 2 17 25 2 1\nq 3 -16\nf 12 7 18 21 22\nm 3 6 7 12 14 16\ne\n",
+        Told::Bounds(1, 1, false, Some(1)),
+    ),
+    (
+        LATER,
+        "distfuture-repair 1 10000 2 17 25 2 1\nq -17 3\nm 3 6 7 12 14 16\ne\n",
+        Told::Fault(4, CertCause::Incomplete),
     ),
     (
         TWO_LATER,
@@ -161,4 +175,5 @@ fn repairs_are_told(rt: HostRuntime) {
 #[test]
 fn the_laws_hold() {
     accepted_repairs_hold();
+    repairs_have_one_answer();
 }

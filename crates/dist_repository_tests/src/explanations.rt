@@ -10,9 +10,14 @@ use std::process::Abort;
 const NEEDS_ENEMY: &str =
     "Package: a\nVersion: 1\nDepends: b\n\nPackage: b\nVersion: 1\nConflicts: a\n";
 
+/// Package a needs one of b and c, and one of d and e, and each of the first two is in conflict with both of the others.
+const NEEDS_TWO: &str =
+    "Package: a\nVersion: 1\nDepends: b | c, d | e\n\nPackage: b\nVersion: 1\nConflicts: d, e\n\nPackage: c\nVersion: 1\nConflicts: d, e\n\nPackage: d\nVersion: 1\n\nPackage: e\nVersion: 1\n";
+
 /// What is answered of a file.
 enum Said {
     Installable,
+    Undecided,
     Broken(&'static [u32], &'static [u32]),
     Refused(u64, CertCause),
 }
@@ -20,7 +25,7 @@ enum Said {
 /// Stanzas, a file over them, and what is answered of package a.
 type Row = (&'static str, &'static str, Said);
 
-const FILES: [Row; 9] = [
+const FILES: [Row; 12] = [
     (
         NEEDS_ENEMY,
         "distfuture-explain 1 10000 2 2 1\nq 1 3 4\nf 1 2\nq 1 4\nm 1 4\nq 1 3\nm 1 2 3\ne\n",
@@ -66,6 +71,23 @@ const FILES: [Row; 9] = [
         "distfuture-explain 1 10000 2 2 1\nm 1 2 3\ne\n",
         Said::Refused(1, CertCause::BadHeader),
     ),
+    // The question of all relations is left undecided.
+    (
+        NEEDS_TWO,
+        "distfuture-explain 1 1 5 6 1\nq 1 6 7 8 9 10 11\nd -2 -1 -7 -8 -9 0 3 4 2\nu\ne\n",
+        Said::Undecided,
+    ),
+    // The last relation is left undecided, then shown to be needed.
+    (
+        NEEDS_TWO,
+        "distfuture-explain 1 1 5 6 1\nq 1 6 7 8 9 10 11\nd -2 -1 -7 -8 -9 -11 0 3 4 2\nf 7 1 5 6 2\nm 1 4 7 8 9 10 11\nm 1 2 6 8 9 10 11\nm 1 2 4 6 7 9 10 11\nm 1 2 5 6 7 8 10 11\nm 1 3 4 6 7 8 9 11\nq 1 6 7 8 9 10\nd -2 -1 -7 -8 -9 0 3 4 2\nu\ne\n",
+        Said::Broken(&[1, 2, 3, 4, 5], &[6]),
+    ),
+    (
+        NEEDS_TWO,
+        "distfuture-explain 1 1 5 6 1\nq 1 6 7 8 9 10 11\nd -2 -1 -7 -8 -9 -11 0 3 4 2\nf 7 1 5 6 2\nm 1 4 7 8 9 10 11\nm 1 2 6 8 9 10 11\nm 1 2 4 6 7 9 10 11\nm 1 2 5 6 7 8 10 11\nm 1 3 4 6 7 8 9 11\nq 1 6 7 8 9 10\nd -2 -1 -7 -8 -9 0 3 4 2\nu\nm 1 3 5 6 7 8 9 10\ne\n",
+        Said::Broken(&[1, 2, 3, 4, 5, 6], &[]),
+    ),
 ];
 
 /// Whether a verdict is the expected one.
@@ -74,12 +96,13 @@ fn is_said(verdict: &ExplainVerdict, said: &Said) -> bool {
         (ExplainVerdict::Accepted(header, Explained::Installable), Said::Installable) => {
             header.package == 0
         }
-        (
-            ExplainVerdict::Accepted(header, Explained::Broken(needed, undecided)),
-            Said::Broken(more, left),
-        ) => {
-            header.limit == 10_000 && needed.as_slice() == *more && undecided.as_slice() == *left
+        (ExplainVerdict::Accepted(header, Explained::Undecided), Said::Undecided) => {
+            header.limit == 1
         }
+        (
+            ExplainVerdict::Accepted(_, Explained::Broken(needed, undecided)),
+            Said::Broken(more, left),
+        ) => { needed.as_slice() == *more && undecided.as_slice() == *left }
         (ExplainVerdict::Refused(fault), Said::Refused(line, cause)) => {
             fault.line == *line && fault.cause == *cause
         }

@@ -1,7 +1,10 @@
 //! Clauses of the present with their selectors.
 use dist_base::{MAX_CLAUSES, MAX_LITERALS, MAX_PACKAGES, MAX_VARIABLES};
 use dist_clause::ClauseSet;
-use dist_explain::{selectors_explain, with_selectors};
+use dist_explain::{
+    Relation, accepted_explanations_hold, explanations_have_one_answer, relations_of,
+    selectors_explain, with_selectors,
+};
 use dist_now::{clauses_of, demands_tell_health, relations_have_clauses};
 use dist_outside::{Limits, What, WorkError};
 use dist_samples::{has, repository};
@@ -64,9 +67,39 @@ fn each_clause_has_its_selector(rt: HostRuntime) {
     }
 }
 
+/// Three packages, two of one name: the third needs the name and one that is not there, is met by itself in between, and is in
+/// conflict with the name.
+const NAMESAKES: &str =
+    "Package: a\nVersion: 1\n\nPackage: a\nVersion: 2\n\nPackage: b\nVersion: 1\nDepends: a, b, c | d\nConflicts: a (<< 2)\n";
+
+/// The relations of some stanzas.
+fn relations(alloc: Global, stanzas: &str) -> Option<Vec<Relation>> {
+    let repository = repository(alloc, stanzas)?;
+    let list = relations_of(alloc, &repository).ok();
+    drop(repository);
+    list
+}
+
+#[test]
+fn relations_are_numbered(rt: HostRuntime) {
+    let found = relations(rt.alloc(), NAMESAKES);
+    let wanted = [
+        Relation::Needs(2, 0),
+        Relation::Needs(2, 2),
+        Relation::Apart(0, 1),
+        Relation::Apart(0, 2),
+    ];
+    match found {
+        Some(list) => assert!(rt; list.as_slice() == wanted.as_slice(), "other relations"),
+        None => assert!(rt; false, "no relations"),
+    }
+}
+
 #[test]
 fn the_laws_hold() {
     demands_tell_health();
     relations_have_clauses();
     selectors_explain();
+    accepted_explanations_hold();
+    explanations_have_one_answer();
 }
