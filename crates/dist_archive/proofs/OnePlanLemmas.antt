@@ -1,5 +1,6 @@
 -- A later archive has one plan.
-use Rattle.std.proofs.Common.{◌≡◌, ◌↔◌, ℕ, zero, suc, List, [], ◌∷◌, ◌++◌, None, Some, Less, Greater, refl, sym, ap, subst, ◌∙◌, inl, inr, arith, length, slice_get}
+use Rattle.std.proofs.Common.{◌≡◌, ◌↔◌, ℕ, zero, suc, List, [], ◌∷◌, ◌++◌, None, Some, Less, Greater, refl, sym, ap}
+use Rattle.std.proofs.Common.{subst, ◌∙◌, inl, inr, arith, length, slice_get}
 use Rattle.std.specs.Prelude.{Contains}
 use Rattle.std.specs.Ordering.{ordering_reverse}
 use Rattle.dist_base.specs.ListLaws.{any-more, has-at, here-at, pairs-head, pairs-tail, same-at}
