@@ -35,7 +35,8 @@ none-asked asks before (Derived literals hints ∷ steps) all = (
 none-asked asks before (step ∷ steps) all = absurd (false≢true (All-head (λ s. is_derived s ≡ true) step steps all))
 
 -- the line of an answer asks nothing
-closing-asks : (asks : Asks) (before : List CertRecord) (answer : Answer) → AreAsked asks before (closing_line answer ∷ [])
+closing-asks : (asks : Asks) (before : List CertRecord) (answer : Answer)
+    → AreAsked asks before (closing_line answer ∷ [])
 closing-asks asks before (answers.Found values) = (tt, tt)
 closing-asks asks before (answers.Refuted hints) = (tt, tt)
 closing-asks asks before answers.Undecided = (tt, tt)
