@@ -2,13 +2,13 @@
 use Rattle.std.proofs.Common.{◌≡◌, ◌≢◌, ℕ, ◌<◌, ◌≤◌, ◌^◌, ◌+◌, ◌++◌, Bool, false, true, not, List, [], ◌∷◌, length, map, refl, ap, sym, subst, ◌∙◌}
 use Rattle.std.proofs.Common.{append-nil, arith}
 use Rattle.std.specs.List.{All}
+use Rattle.std.specs.Prelude.{◌↔◌, IsTrue}
 use Rattle.std.proofs.lemmas.List.Elements.{All-map, All-nil}
 use Rattle.dist_clause.specs.Formula.{Literal, IsClauseOver, IsModel, IsTrueLiteral, MakesTrue, negation}
 use Rattle.dist_derive.specs.ClauseLog.{ClauseLog, inputs_of}
 use Rattle.dist_derive.specs.Follows.{Follows}
 use Rattle.dist_outside.specs.DeskView.{DeskView}
 use Rattle.dist_solver.specs.Ask.{IsRefutation}
-use Rattle.dist_solver.specs.Evidence.{IsShort}
 use Rattle.dist_solver.specs.declared.answers.Answer.TheVariants as answers
 use Rattle.dist_cert.specs.declared.records.CertRecord.{CertRecord}
 use Rattle.dist_cert.specs.declared.records.CertRecord.TheVariants.{Question}
@@ -19,7 +19,7 @@ use Rattle.dist_cert.specs.Writing.{WriterView}
 use Rattle.dist_sweep.specs.Asking.{is_derived}
 use Rattle.dist_sweep.specs.LineLaws.{derived-append, none-ended}
 use Rattle.dist_sweep.specs.ScriptLaws.{BeginsLaw}
-use Rattle.dist_inquiry.specs.Asking.{IsLogAt}
+use Rattle.dist_inquiry.specs.Asking.{AreRefuted, IsLogAt}
 use Rattle.dist_inquiry.specs.Inquiry.{Setting, matter_in}
 use Rattle.dist_inquiry.proofs.Closing.{Derives}
 use Rattle.dist_inquiry.proofs.Lines.{all-numbered, from-one, refuted-line}
@@ -43,15 +43,26 @@ denied value clause all some =
     (λ k d within here. opposite _ (sym (all k d within) ∙ here)) in
     subst (λ l. ¬ IsTrueLiteral value l) some.3 (none some.0 some.1 some.2) some.4
 
-pub refuted-by : (log : ClauseLog) (assumed : List Literal) (hints : List ℕ) → Follows log.clauses (map negation assumed) hints
-    → IsShort log.variables hints → ((value : ℕ → Bool) → IsModel value (inputs_of log) → MakesTrue value (map negation assumed))
-    → IsRefutation log assumed hints
-refuted-by log assumed hints follows short sound =
-    record { follows = follows; short = short; no_model = λ value model all. denied value assumed all (sound value model) }
+pub refuted-by : (log : ClauseLog) (assumed : List Literal) (hints : List ℕ) → AreRefuted log assumed hints
+    → ((value : ℕ → Bool) → IsModel value (inputs_of log) → MakesTrue value (map negation assumed)) → IsRefutation log assumed hints
+refuted-by log assumed hints refuted sound =
+    record { follows = refuted.0; short = refuted.1; no_model = λ value model all. denied value assumed all (sound value model) }
 
 -- hints by which something follows are numbers from 1 on
 pub hints-from-one : (log : ClauseLog) (clause : List Literal) (hints : List ℕ) → Follows log.clauses clause hints → AreFromOne hints
 hints-from-one log clause hints follows = from-one log.clauses hints (all-numbered log.clauses (map negation clause) hints follows)
+
+-- the same log and the same assumptions
+pub refuted-same : (log other : ClauseLog) (assumed others : List Literal) (hints : List ℕ) → log ≡ other → assumed ≡ others
+    → IsRefutation log assumed hints → IsRefutation other others hints
+refuted-same log other assumed others hints is are refuted =
+    subst (λ (l : ClauseLog). IsRefutation l others hints) is (subst (λ (a : List Literal). IsRefutation log a hints) are refuted)
+
+pub exactly-same : (log other : ClauseLog) (assumed others : List Literal) (hints : List ℕ) (yes : Bool) → log ≡ other → assumed ≡ others
+    → IsTrue yes ↔ AreRefuted log assumed hints → IsTrue yes ↔ AreRefuted other others hints
+exactly-same log other assumed others hints yes is are both =
+    subst (λ (l : ClauseLog). IsTrue yes ↔ AreRefuted l others hints) is
+    (subst (λ (a : List Literal). IsTrue yes ↔ AreRefuted log a hints) are both)
 
 -- ---- the line that closes the question
 
