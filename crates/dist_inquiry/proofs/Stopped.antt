@@ -82,7 +82,7 @@ later-stopped twice g course old mid new error first stops = record {
 -- ---- in the end
 
 by-end : (g : Setting) (course : Course) (lines : List CertRecord) (cut : List ℕ) (old mid new : DeskView) (error : WorkError)
-    → Decided lines → (bytes : List ℕ) → FileGrew bytes old mid → FileGrew cut mid new
+    → course.Decided lines → (bytes : List ℕ) → FileGrew bytes old mid → FileGrew cut mid new
     → LineStopsBy g (lines ++ End ∷ []) cut mid new error → StoppedBy g course (Some lines) cut old new error
 by-end g course lines cut old mid new WriteFault decided bytes first grew by =
     rose-later old.write_faults mid.write_faults new.write_faults first.counts.write_faults_stand grew.counts.write_faults_stand by

@@ -6,7 +6,7 @@ use Rattle.dist_solver.specs.declared.answers.Answer.{Answer}
 use Rattle.dist_sweep.specs.ScriptLaws.{by-exit}
 use Rattle.dist_inquiry.specs.Asking.{AskStops}
 use Rattle.dist_inquiry.proofs.Noted.{asked-and-noted, stops-noted}
-use Rattle.dist_inquiry.proofs.noting.ask_and_note.Goals as goal
+use Rattle.dist_inquiry.proofs.noting.refute_and_note.Goals as goal
 
 pub returns-in_err-finding-clause-err : goal.returns-in_err-finding-clause-err
 returns-in_err-finding-clause-err g c =
