@@ -1,9 +1,7 @@
 -- The file of one question that is written: of which kind it is, what its lines find, and when it is a whole one.
-use Rattle.std.specs.Prelude.{◌≡◌, ℕ, ◌<◌, List, [], ◌∷◌, ◌++◌, length}
-use Rattle.dist_clause.specs.ClauseList.{ClauseList}
+use Rattle.std.specs.Prelude.{◌≡◌, ℕ, List, [], ◌∷◌, ◌++◌}
 use Rattle.dist_outside.specs.DeskView.{DeskView}
 use Rattle.dist_outside.specs.declared.limits.Limits.{Limits}
-use Rattle.dist_outside.specs.declared.trouble.WorkError.{WorkError}
 use Rattle.dist_solver.specs.declared.answers.Answer.{Answer}
 use Rattle.dist_solver.specs.declared.answers.Answer.TheVariants as answers
 use Rattle.dist_cert.specs.declared.records.CertRecord.{CertRecord}
@@ -18,7 +16,7 @@ use Rattle.dist_findings.specs.declared.finding.Finding.TheVariants as finding
 use Rattle.dist_sweep.specs.Asking.{AskerView, question_lines}
 use Rattle.dist_sweep.specs.Words.{closing_line, true_variables}
 use Rattle.dist_inquiry.specs.Asking.{IsAsked, IsAt}
-use Rattle.dist_inquiry.specs.Inquiry.{Setting, Stops}
+use Rattle.dist_inquiry.specs.Inquiry.{Setting}
 
 -- what a question finds
 abbrev pub finding_of : List Word → Answer → Finding

@@ -1,19 +1,17 @@
-use Rattle.std.proofs.Common.{◌≡◌, ◌∙◌, ◌^◌, ◌<◌, ℕ, List, Result, Bool, true, IfErr, ap, arith, length, refl, sym, subst}
-use Rattle.std.specs.Prelude.{◌↔◌, IsTrue}
+use Rattle.std.proofs.Common.{◌∙◌, ◌^◌, ◌<◌, ℕ, List, Result, Bool, IfErr, ap, arith, length, sym, subst}
 use Rattle.dist_clause.specs.Formula.{Literal, IsClauseOver}
 use Rattle.dist_derive.specs.ClauseLog.{ClauseLog}
 use Rattle.dist_derive.specs.Follows.{EachLineFollows}
 use Rattle.dist_outside.specs.DeskView.{DeskView}
 use Rattle.dist_outside.specs.declared.trouble.WorkError.{WorkError}
 use Rattle.dist_outside.specs.declared.trouble.WorkError.TheVariants.{NoMemory}
-use Rattle.dist_solver.specs.Ask.{IsRefutation}
 use Rattle.dist_solver.specs.declared.answers.Answer.TheVariants.{Refuted}
 use Rattle.dist_cert.specs.Groups.{clause_of}
 use Rattle.dist_sweep.specs.Asking.{AskerView, IsOver}
 use Rattle.dist_sweep.specs.ScriptLaws.{by-exit, two-grow}
 use Rattle.dist_inquiry.specs.Asking.{AskStops}
 use Rattle.dist_inquiry.proofs.Asked.{asked, clause-over, stops-at-answer, stops-at-question, stops-before}
-use Rattle.dist_inquiry.proofs.Refuted.{exactly-same, refuted-same, refutes-at-once}
+use Rattle.dist_inquiry.proofs.Refuted.{refuted-same, refutes-at-once}
 use Rattle.dist_inquiry.proofs.asker.Inquirer.refute.Goals as goal
 
 pub returns-in_err-assumptions-clause-err : goal.returns-in_err-assumptions-clause-err
