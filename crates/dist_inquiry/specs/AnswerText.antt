@@ -62,6 +62,7 @@ pub record IsAskedAndNoted {N : Type 0} (Noted : Noting N) (g : Setting) (number
       ≡ findings before ++ finding_of question answer ∷ []
   pub noted : Noted numbers (findings before ++ finding_of question answer ∷ []) notes
 
+-- where what is kept is noted, the question was asked and noted
 abbrev pub NoteMore : {N : Type 0} → Noting N → DeskView → DeskView → AskerView → AskerView → N → N → List Word
     → Answer → Type 0
 NoteMore Noted old new a b notes after question answer = (g : Setting) (numbers : List ℕ) (before : List CertRecord)
