@@ -39,16 +39,21 @@ use std::marker::Model;
 pub struct Inquirer {
     alloc: Global,
     solver: Solver,
+    /// Room in which hints are tested.
+    scratch: Scratch,
     writer: Writer,
     limit: u32,
 }
 
 impl Model for Inquirer {
+    ghost use Rattle.std.specs.Prelude.{◌≡◌};
     ghost use Rattle.dist_sweep.specs.Asking.{AskerView};
 
     ghost Value = { AskerView };
 
     ghost view = { λ a. record { log = a.solver.log; writer = a.writer; limit = a.limit } };
+
+    ghost invariant = { λ a. a.scratch ≡ a.solver.log.variables };
 }
 
 /// Puts the own line of a question.
@@ -169,22 +174,24 @@ fn negated(alloc: Global, literals: &[Lit]) -> Result<Vec<Lit>, AllocError>
 fn are_refuted(
     alloc: Global,
     log: &Log,
+    scratch: &mut Scratch,
     assumptions: &[Lit],
     hints: &[u32],
 ) -> Result<bool, AllocError>
     requires assumptions { IsClauseOver log.now.variables assumptions.now }
     requires lines_follow { EachLineFollows log.now.inputs log.now.clauses }
+    requires ready { scratch.old ≡ log.now.variables }
     ensures exactly { IfOk result (λ yes. IsTrue yes ↔ AreRefuted log.now assumptions.now hints.now) }
     ensures refuted { IfOk result (λ yes. IsTrue yes → IsRefutation log.now assumptions.now hints.now) }
     ensures numbers { IfOk result (λ yes. IsTrue yes → AreFromOne hints.now) }
+    ensures ready { scratch.new ≡ scratch.old }
 {
     lines_keep_models();
     if hints.len() > log.variables() as usize + 1 {
         return Ok(false);
     }
     let clause = negated(alloc, assumptions)?;
-    let mut scratch = Scratch::new(alloc, log.variables())?;
-    Ok(log.follows(&mut scratch, &clause, hints))
+    Ok(log.follows(scratch, &clause, hints))
 }
 
 /// Puts the line that closes a question as refuted by hints.
@@ -228,8 +235,10 @@ impl Inquirer {
           limit = limit;
         }) }
     {
+        let scratch = Scratch::new(alloc, clauses.variables())?;
         Ok(Inquirer {
             alloc,
+            scratch,
             solver: Solver::new(alloc, clauses, limits.lines, limits.line_literals)?,
             writer: Writer::new(alloc, limits),
             limit,
@@ -324,7 +333,8 @@ impl Inquirer {
         let _stated = self.solver.log().variables();
         let _within = self.solver.log().len();
         let assumptions = clause_of(self.alloc, question)?;
-        let refuted = are_refuted(self.alloc, self.solver.log(), &assumptions, hints)?;
+        let log = self.solver.log();
+        let refuted = are_refuted(self.alloc, log, &mut self.scratch, &assumptions, hints)?;
         if !refuted {
             return Ok(false);
         }

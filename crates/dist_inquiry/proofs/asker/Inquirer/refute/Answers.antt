@@ -23,13 +23,13 @@ returns-in_err-assumptions-clause-err g c =
 pub are_refuted-requires-clause-assumptions : goal.are_refuted-requires-clause-assumptions
 are_refuted-requires-clause-assumptions g c =
     let over = subst (λ (v : AskerView). IsOver v.log.variables c.args.question.now) (sym c.self.view_is) c.requires.question in
-    subst (λ (l : ClauseLog). IsClauseOver l.variables c.deref.result.now) (sym c.log-3.ensures.value)
+    subst (λ (l : ClauseLog). IsClauseOver l.variables c.deref.result.now) (sym c.log-log.ensures.value)
     (subst (λ (ls : List Literal). IsClauseOver c.self.inside.solver.log.variables ls) (sym (c.deref.ensures.value ∙ c.in_ok-assumptions.ensures))
     (clause-over c.self.inside.solver.log.variables c.args.question.now over))
 
 pub are_refuted-requires-clause-lines_follow : goal.are_refuted-requires-clause-lines_follow
 are_refuted-requires-clause-lines_follow g c =
-    subst (λ (l : ClauseLog). EachLineFollows l.inputs l.clauses) (sym c.log-3.ensures.value) c.log-3.ensures.lines_follow
+    subst (λ (l : ClauseLog). EachLineFollows l.inputs l.clauses) (sym c.log-log.ensures.value) c.log-log.ensures.lines_follow
 
 pub returns-in_err-refuted-clause-err : goal.returns-in_err-refuted-clause-err
 returns-in_err-refuted-clause-err g c =
@@ -62,7 +62,7 @@ returns-in_err-put_refuted-clause-err g c =
     let count = c.len-within.ensures.value ∙ ap (λ (l : ClauseLog). length l.clauses) c.log-2.ensures.value in
     let few : length t.log.clauses < 2 ^ 32 = omega (arith, count, c.len-within.ensures.stated_total) in
     let over = subst (λ (v : AskerView). IsOver v.log.variables c.args.question.now) (sym c.self.view_is) c.requires.question in
-    let refuted = refuted-same c.log-3.result.now t.log c.deref.result.now (clause_of c.args.question.now) hints c.log-3.ensures.value
+    let refuted = refuted-same c.log-log.result.now t.log c.deref.result.now (clause_of c.args.question.now) hints c.log-log.ensures.value
     (c.deref.ensures.value ∙ c.in_ok-assumptions.ensures) (c.in_ok-refuted.ensures.refuted c.if-not-refuted.false) in
     by-exit (λ (r : Result Bool WorkError). IfErr r (AskStops c.args.self.now c.args.question.now first last)) c.from_residual-in_err-put_refuted.result
     c.in_err-put_refuted.field-0.0 c.from_residual-in_err-put_refuted.ensures.1
@@ -89,7 +89,7 @@ returns-clause-ok g c told =
     let count = c.len-within.ensures.value ∙ ap (λ (l : ClauseLog). length l.clauses) c.log-2.ensures.value in
     let few : length t.log.clauses < 2 ^ 32 = omega (arith, count, c.len-within.ensures.stated_total) in
     let over = subst (λ (v : AskerView). IsOver v.log.variables c.args.question.now) (sym c.self.view_is) c.requires.question in
-    let refuted = refuted-same c.log-3.result.now t.log c.deref.result.now (clause_of c.args.question.now) hints c.log-3.ensures.value
+    let refuted = refuted-same c.log-log.result.now t.log c.deref.result.now (clause_of c.args.question.now) hints c.log-log.ensures.value
     (c.deref.ensures.value ∙ c.in_ok-assumptions.ensures) (c.in_ok-refuted.ensures.refuted c.if-not-refuted.false) in
     asked c.file_grows.ensures.twice t c.args.self.now t.log c.args.question.now first mid mid last c.put_question.new.writer
     c.put_question.new.writer c.put_refuted.new.writer (Refuted hints) c.self.view_is fits over
