@@ -1,7 +1,7 @@
 -- A question with all its lines.
-use Rattle.std.proofs.Common.{◌≡◌, ◌≢◌, ℕ, ◌<◌, ◌≤◌, ◌^◌, ◌++◌, Bool, false, List, [], ◌∷◌, length, refl, ap, sym, subst, ◌∙◌, append_assoc, append-nil, arith}
+use Rattle.std.proofs.Common.{◌≡◌, ◌≢◌, ℕ, ◌<◌, ◌≤◌, ◌^◌, ◌++◌, false, List, [], ◌∷◌, refl, ap, sym, subst, ◌∙◌, append_assoc, append-nil, arith}
 use Rattle.std.proofs.Common.{Ok}
-use Rattle.std.specs.List.{All, list_any}
+use Rattle.std.specs.List.{list_any}
 use Rattle.std.proofs.lemmas.List.Elements.{All-map}
 use Rattle.dist_clause.specs.Formula.{Literal, literal, IsClauseOver, IsModel, value_of}
 use Rattle.dist_derive.specs.ClauseLog.{ClauseLog, inputs_of}
@@ -19,12 +19,12 @@ use Rattle.dist_cert.specs.FileLines.{lines_text}
 use Rattle.dist_cert.specs.Writing.{WriterView, ended}
 use Rattle.dist_inquiry.specs.Asking.{AskMore, AskStops, IsAt, IsLogAt, MayDerive, Says}
 use Rattle.dist_sweep.specs.Asking.{AskerView, IsOver}
-use Rattle.dist_inquiry.specs.Inquiry.{IsLine, Setting, IsWriter, PutMore, PutStops, Stops, matter_in}
+use Rattle.dist_inquiry.specs.Inquiry.{Asks, IsLine, NoQuestion, OnlyThis, Setting, IsWriter, PutMore, PutStops, matter_in}
 use Rattle.dist_sweep.specs.Words.{closing_line}
 use Rattle.dist_cert.specs.ListLaws.{pairs-map}
 use Rattle.dist_sweep.specs.LineLaws.{keeps-same, derived-append, none-ended}
 use Rattle.dist_inquiry.proofs.Lines.{question-line}
-use Rattle.dist_inquiry.specs.InquiryLaws.{stops-after, stops-for-memory}
+use Rattle.dist_inquiry.specs.InquiryLaws.{is_question, no-question, none-asked, stops-after, stops-for-memory, stops-silent, stops-wider}
 use Rattle.dist_sweep.specs.ScriptLaws.{BeginsLaw, TwiceLaw, lines-more, one-line}
 use Rattle.dist_inquiry.proofs.Closing.{Derives, DerivesNone, inputs-are}
 
@@ -59,8 +59,14 @@ may-derive g before question t w fits over more at =
 
 -- ---- where it stops
 
+no-question-closes : (answer : Answer) → is_question (closing_line answer) ≡ false
+no-question-closes (answers.Found values) = refl
+no-question-closes (answers.Refuted hints) = refl
+no-question-closes answers.Undecided = refl
+
 pub stops-before : BeginsLaw → (s : AskerView) (question : List Word) (first : DeskView) → AskStops s question first first NoMemory
-stops-before begins s question first g before at = stops-for-memory g before s.writer first first at.writer (begins first)
+stops-before begins s question first g before at =
+    stops-for-memory g (OnlyThis before (Question question)) before s.writer first first at.writer (begins first)
 
 pub stops-at-question : (t s : AskerView) (question : List Word) (first last : DeskView) (error : WorkError) → t ≡ s → t.log.variables < 2 ^ 32
     → IsOver t.log.variables question
@@ -74,9 +80,11 @@ pub stops-while-derived : TwiceLaw → (t s : AskerView) (question : List Word) 
     → DerivesNone t.log (clause_of question) t.limit mid last w error → AskStops s question first last error
 stops-while-derived twice t s question first mid last w error is fits over grew more none g before at =
     let here = at-view g before t s is at in
-    stops-after twice g before (Question question ∷ []) first mid last error
-    (subst (λ bytes. FileGrew bytes first mid) (sym (one-line (Question question))) grew)
-    (none g before question refl (may-derive g before question t w fits over more here))
+    let asks : Asks = OnlyThis before (Question question) in
+    stops-after twice g asks before (Question question ∷ []) first mid last error
+    (subst (λ bytes. FileGrew bytes first mid) (sym (one-line (Question question))) grew) ((refl, refl), tt)
+    (stops-silent g asks (before ++ Question question ∷ []) mid last error
+    (none g before question refl (may-derive g before question t w fits over more here)))
 
 pub stops-at-answer : TwiceLaw → (t s : AskerView) (after : ClauseLog) (question : List Word) (first mid later last : DeskView) (w behind : WriterView)
     (answer : Answer) (error : WorkError) → t ≡ s → t.log.variables < 2 ^ 32
@@ -86,9 +94,14 @@ pub stops-at-answer : TwiceLaw → (t s : AskerView) (after : ClauseLog) (questi
 stops-at-answer twice t s after question first mid later last w behind answer error is fits over grew more derives stops g before at =
     let here = at-view g before t s is at in
     let d = derives g before question refl (may-derive g before question t w fits over more here) in
-    stops-after twice g before (Question question ∷ d.between) first later last error
+    let asks : Asks = OnlyThis before (Question question) in
+    let lines : List CertRecord = before ++ Question question ∷ d.between in
+    stops-after twice g asks before (Question question ∷ d.between) first later last error
     (twice (ended (record_text (Question question))) (lines_text d.between) first mid later grew d.grew)
-    (stops g (before ++ Question question ∷ d.between) d.writer d.closing)
+    ((refl, refl), none-asked asks (before ++ Question question ∷ []) d.between d.only_derived)
+    (stops-silent g asks lines later last error
+    (stops-wider g (OnlyThis lines (closing_line answer)) NoQuestion (no-question lines (closing_line answer) (no-question-closes answer)) lines later last
+    error (stops g lines d.writer d.closing)))
 
 -- ---- what was asked
 

@@ -1,28 +1,33 @@
 //! Questions, each with its lines.
-ghost use Rattle.std.specs.Prelude.{◌≡◌, ◌≤◌, List, [], ◌∷◌, ◌++◌, IfErr, IfOk, OnOk, length};
+ghost use Rattle.std.specs.Prelude.{◌≡◌, ◌≤◌, ◌↔◌, List, [], ◌∷◌, ◌++◌, IfErr, IfOk, IfSome, IsFalse, IsTrue, MatchOption, OnOk, length, map};
 ghost use Rattle.dist_base.specs.declared.TheConstants.{MAX_LINES, MAX_LINE_LITERALS, MAX_VARIABLES};
-ghost use Rattle.dist_clause.specs.Formula.{IsClauseOver};
+ghost use Rattle.dist_clause.specs.ClauseList.{clause_at};
+ghost use Rattle.dist_clause.specs.Formula.{IsClauseOver, negation};
+ghost use Rattle.dist_derive.specs.Follows.{EachLineFollows, IsNumberOf};
 ghost use Rattle.dist_outside.specs.DeskView.{FileGrew};
 ghost use Rattle.dist_outside.specs.Files.{IsWriting};
-ghost use Rattle.dist_solver.specs.Ask.{IsAnswer};
+ghost use Rattle.dist_solver.specs.Ask.{IsAnswer, IsRefutation};
+ghost use Rattle.dist_solver.specs.declared.answers.Answer.TheVariants as answers;
 ghost use Rattle.dist_cert.specs.FileLines.{IsOneLine};
-ghost use Rattle.dist_cert.specs.Form.{KeepsRules, Word, record_text};
+ghost use Rattle.dist_cert.specs.Form.{AreFromOne, KeepsRules, Word, record_text};
 ghost use Rattle.dist_cert.specs.Groups.{clause_of};
 ghost use Rattle.dist_cert.specs.Writing.{ended};
 ghost use Rattle.dist_cert.specs.declared.records.CertRecord.{CertRecord};
 ghost use Rattle.dist_cert.specs.declared.records.CertRecord.TheVariants.{End, Question};
+ghost use Rattle.dist_cert.specs.declared.records.CertRecord.TheVariants as lines;
 ghost use Rattle.dist_sweep.specs.Asking.{IsOver, work_of};
 ghost use Rattle.dist_sweep.specs.Script.{Grows};
 ghost use Rattle.dist_sweep.specs.Sweeping.{new_writer};
 ghost use Rattle.dist_sweep.specs.Words.{IsAnswerOver, closing_line};
-ghost use Rattle.dist_inquiry.specs.Asking.{AskMore, AskStops, IsDerived, MayDerive};
+ghost use Rattle.dist_inquiry.specs.Asking.{AreRefuted, AskMore, AskStops, IsDerived, MayDerive};
 ghost use Rattle.dist_inquiry.specs.Edges.{EndMore, EndStops, FirstMore, FirstStops};
-ghost use Rattle.dist_inquiry.specs.Inquiry.{PutMore, PutStops, Setting, Stops};
+ghost use Rattle.dist_inquiry.specs.Inquiry.{NoQuestion, PutMore, PutStops, Setting, Stops};
 
 use crate::putting::{put_derived, put_line};
 use crate::words::clause_of;
 use dist_cert::{CertRecord, Items, Writer};
 use dist_clause::{ClauseSet, Lit};
+use dist_derive::{Log, Scratch, lines_keep_models};
 use dist_outside::{Desk, Limits, What, WorkError, file_grows};
 use dist_solver::{Answer, AskError, Solver};
 use dist_sweep::true_variables;
@@ -34,16 +39,21 @@ use std::marker::Model;
 pub struct Inquirer {
     alloc: Global,
     solver: Solver,
+    /// Room in which hints are tested.
+    scratch: Scratch,
     writer: Writer,
     limit: u32,
 }
 
 impl Model for Inquirer {
+    ghost use Rattle.std.specs.Prelude.{◌≡◌};
     ghost use Rattle.dist_sweep.specs.Asking.{AskerView};
 
     ghost Value = { AskerView };
 
     ghost view = { λ a. record { log = a.solver.log; writer = a.writer; limit = a.limit } };
+
+    ghost invariant = { λ a. a.scratch ≡ a.solver.log.variables };
 }
 
 /// Puts the own line of a question.
@@ -97,7 +107,7 @@ fn derive<D: Desk>(
         → IsDerived g before question (D.view desk.old) (D.view desk.new) solver.old.log solver.new.log limit writer.new answer) }
     ensures err { IfErr result (λ error. (g : Setting) (before : List CertRecord) (question : List Word) → clause_of question ≡ assumptions.now
         → MayDerive g before question solver.old.log limit writer.old
-        → Stops g (before ++ Question question ∷ []) (D.view desk.old) (D.view desk.new) error) }
+        → Stops g NoQuestion (before ++ Question question ∷ []) (D.view desk.old) (D.view desk.new) error) }
     ensures over { IfOk result (IsAnswerOver solver.old.log.variables) }
     ensures answered { IfOk result (λ answer. IsAnswer solver.old.log solver.new.log assumptions.now limit (Ok answer)) }
     ensures variables { solver.new.log.variables ≡ solver.old.log.variables }
@@ -153,6 +163,56 @@ fn put_answer<D: Desk>(
     put_line(writer, desk, &step)
 }
 
+/// The negated literals.
+fn negated(alloc: Global, literals: &[Lit]) -> Result<Vec<Lit>, AllocError>
+    ensures { IfOk result (λ clause. clause.items ≡ map negation literals.now) }
+{
+    literals.iter().map(|l| l.negated()).collect(alloc)
+}
+
+/// Whether assumptions are refuted by these hints, which are not too many.
+fn are_refuted(
+    alloc: Global,
+    log: &Log,
+    scratch: &mut Scratch,
+    assumptions: &[Lit],
+    hints: &[u32],
+) -> Result<bool, AllocError>
+    requires assumptions { IsClauseOver log.now.variables assumptions.now }
+    requires lines_follow { EachLineFollows log.now.inputs log.now.clauses }
+    requires ready { scratch.old ≡ log.now.variables }
+    ensures exactly { IfOk result (λ yes. IsTrue yes ↔ AreRefuted log.now assumptions.now hints.now) }
+    ensures refuted { IfOk result (λ yes. IsTrue yes → IsRefutation log.now assumptions.now hints.now) }
+    ensures numbers { IfOk result (λ yes. IsTrue yes → AreFromOne hints.now) }
+    ensures ready { scratch.new ≡ scratch.old }
+{
+    lines_keep_models();
+    if hints.len() > log.variables() as usize + 1 {
+        return Ok(false);
+    }
+    let clause = negated(alloc, assumptions)?;
+    Ok(log.follows(scratch, &clause, hints))
+}
+
+/// Puts the line that closes a question as refuted by hints.
+fn put_refuted<D: Desk>(
+    alloc: Global,
+    writer: &mut Writer,
+    desk: &mut D,
+    hints: &[u32],
+) -> Result<(), WorkError>
+    requires writing { IsWriting (D.view desk.old).mode }
+    requires numbers { AreFromOne hints.now }
+    ensures grew { OnOk result (FileGrew (ended (record_text (lines.Refuted hints.now))) (D.view desk.old) (D.view desk.new)) }
+    ensures ok { OnOk result (PutMore writer.old writer.new (lines.Refuted hints.now)) }
+    ensures err { IfErr result (PutStops writer.old (lines.Refuted hints.now) (D.view desk.old) (D.view desk.new)) }
+    ensures grows { Grows (D.view desk.old) (D.view desk.new) }
+{
+    file_grows();
+    let numbers = hints.to_vec(alloc)?;
+    put_line(writer, desk, &CertRecord::Refuted(Items::from_vec(numbers)))
+}
+
 impl Inquirer {
     /// An inquirer that has asked and written nothing.
     pub fn new(
@@ -175,8 +235,10 @@ impl Inquirer {
           limit = limit;
         }) }
     {
+        let scratch = Scratch::new(alloc, clauses.variables())?;
         Ok(Inquirer {
             alloc,
+            scratch,
             solver: Solver::new(alloc, clauses, limits.lines, limits.line_literals)?,
             writer: Writer::new(alloc, limits),
             limit,
@@ -236,6 +298,49 @@ impl Inquirer {
         )?;
         put_answer(self.alloc, &mut self.writer, desk, &answer, variables)?;
         Ok(answer)
+    }
+
+    /// The clause of a number, by which hints name it; none where there is none of this number.
+    pub fn clause(&self, number: u32) -> Option<&[Lit]>
+        ensures value { MatchOption result (¬ IsNumberOf self.now.log.clauses number)
+            (λ clause. IsNumberOf self.now.log.clauses number × (clause.now ≡ clause_at self.now.log.clauses number)) }
+        ensures over { IfSome result (λ clause. IsClauseOver self.now.log.variables clause.now) }
+    {
+        let log = self.solver.log();
+        if number == 0 || number > log.len() {
+            return None;
+        }
+        Some(log.clause(number))
+    }
+
+    /// Writes a question that these hints refute, with its answer, where they do. The solver isn't asked.
+    pub fn refute<D: Desk>(
+        &mut self,
+        desk: &mut D,
+        question: &[(u32, bool)],
+        hints: &[u32],
+    ) -> Result<bool, WorkError>
+        requires writing { IsWriting (D.view desk.old).mode }
+        requires question { IsOver self.old.log.variables question.now }
+        ensures exactly { IfOk result (λ yes. IsTrue yes ↔ AreRefuted self.old.log (clause_of question.now) hints.now) }
+        ensures ok { IfOk result (λ yes. IsTrue yes → AskMore (D.view desk.old) (D.view desk.new) self.old self.new question.now (answers.Refuted hints.now)) }
+        ensures none { IfOk result (λ yes. IsFalse yes → (desk.new ≡ desk.old) × (self.new ≡ self.old)) }
+        ensures err { IfErr result (AskStops self.old question.now (D.view desk.old) (D.view desk.new)) }
+        ensures rest { self.new ≡ record self.old { writer = self.new.writer } }
+        ensures grows { Grows (D.view desk.old) (D.view desk.new) }
+    {
+        file_grows();
+        let _stated = self.solver.log().variables();
+        let _within = self.solver.log().len();
+        let assumptions = clause_of(self.alloc, question)?;
+        let log = self.solver.log();
+        let refuted = are_refuted(self.alloc, log, &mut self.scratch, &assumptions, hints)?;
+        if !refuted {
+            return Ok(false);
+        }
+        put_question(self.alloc, &mut self.writer, desk, question)?;
+        put_refuted(self.alloc, &mut self.writer, desk, hints)?;
+        Ok(true)
     }
 
     /// Puts the end.
