@@ -31,7 +31,7 @@ use Rattle.dist_explain.specs.declared.verdict.ExplainHeader.{ExplainHeader}
 use Rattle.dist_explain.specs.declared.verdict.ExplainVerdict.{ExplainVerdict}
 use Rattle.dist_explain.specs.declared.verdict.ExplainVerdict.TheVariants.{Accepted, Refused}
 use Rattle.dist_explain.proofs.FileLemmas.{clear-explanations, fitting}
-use Rattle.dist_explain.proofs.ListedLemmas.{one-rising}
+use Rattle.dist_explain.specs.AnsweredLaws.{one-rising}
 use Rattle.dist_explain.proofs.NotesLemmas.{last-one, some-refuted}
 use Rattle.dist_explain.proofs.SelectedLemmas.{count-selected, length-selected}
 use Rattle.dist_explain.proofs.WholeLemmas.{whole-fits}

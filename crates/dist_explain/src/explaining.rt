@@ -49,8 +49,9 @@ fn are_numbers_for(numbers: &[u32], packages: u32, variables: u32) -> bool
 
 /// The files of explanations over a repository.
 #[derive(Drop)]
-pub(crate) struct Explaining<'a> {
-    pub(crate) repo: &'a Repository,
+pub struct Explaining<'a> {
+    /// Its packages are explained.
+    pub repo: &'a Repository,
 }
 
 impl<'a> Answering for Explaining<'a> {
