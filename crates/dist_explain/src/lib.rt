@@ -10,6 +10,7 @@ mod asked;
 mod explained;
 mod explaining;
 mod file;
+mod inputs;
 mod laws;
 mod listed;
 mod notes;
@@ -21,6 +22,7 @@ pub use asked::Asked;
 pub use explained::Explained;
 pub use explaining::Explaining;
 pub use file::check_explained;
+pub use inputs::selected_inputs;
 pub use laws::{
     accepted_explanations_hold, explanations_have_one_answer, marked_relations_are_answered, selectors_explain,
 };
