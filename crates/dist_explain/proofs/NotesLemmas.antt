@@ -28,7 +28,7 @@ use Rattle.dist_explain.specs.declared.asked.Asked.{Asked}
 use Rattle.dist_explain.specs.declared.explained.Explained.{Explained}
 use Rattle.dist_explain.specs.declared.explained.Explained.TheVariants.{Installable, Undecided, Broken}
 use Rattle.dist_check_state.specs.ToldLaws.{IsTold, all-told, bool-told, number-told, stable}
-use Rattle.dist_explain.specs.AnsweredLaws.{any-push, last-more, last-new, none-any, none-more, selects-one}
+use Rattle.dist_explain.specs.AnsweredLaws.{any-push, kept, last-more, last-new, none-any, none-more, selects-one}
 use Rattle.dist_findings.specs.declared.finding.Finding.{Finding}
 use Rattle.dist_findings.specs.declared.finding.Finding.TheVariants as finding
 
@@ -378,32 +378,6 @@ some-refuted asked found numbers later last none =
     none (subst (Any (RefutesSome asked)) (sym last.stands) (any-contained (RefutesSome asked) all (finding.Refuted last.question)
     (Contains-append_right last.earlier (finding.Refuted last.question ∷ later) (finding.Refuted last.question) (0, omega arith, refl))
     (numbers, last.selects)))
-
--- what a filter keeps
-kept-there : (p : ℕ → Bool) (xs : List ℕ) (x : ℕ) → Contains xs x → p x ≡ true → Contains (filter p xs) x
-kept-there p [] x there holds = absurd (omega (arith, there.1))
-kept-there p (y ∷ xs) x there holds = elim (contains-cases y xs x there) [
-  | inl same ↦ by (p y) (ap p same ∙ holds) (inl same)
-  | inr later ↦ by-any (p y) (kept-there p xs x later holds)
-]
-  where
-    by : (b : Bool) → b ≡ true → (y ≡ x) ⊎ Contains (filter p xs) x → Contains (cond b (y ∷ filter p xs) (filter p xs)) x
-    by true is (inl same) = (0, omega arith, same)
-    by true is (inr later) = contains-later y (filter p xs) x later
-    by false is some = absurd (false≢true is)
-
-    by-any : (b : Bool) → Contains (filter p xs) x → Contains (cond b (y ∷ filter p xs) (filter p xs)) x
-    by-any true later = contains-later y (filter p xs) x later
-    by-any false later = later
-
-kept : (p : ℕ → Bool) (xs : List ℕ) (x : ℕ) → Contains (filter p xs) x ↔ (Contains xs x × (p x ≡ true))
-kept p xs x = (
-  (λ there. (
-    All-contains (Contains xs) (filter p xs) x (All-filter p (Contains xs) xs (All-contains_itself xs)) there,
-    All-contains (λ y. p y ≡ true) (filter p xs) x (filter_passes p xs) there,
-  )),
-  (λ both. kept-there p xs x both.0 both.1),
-)
 
 -- what is left open and not shown
 undecided-are : (last : LastView) (one : ℕ) → Contains (undecided_of last) one ↔ (Contains last.left_open one × (¬ Contains last.shown one))

@@ -1,13 +1,16 @@
 -- Laws of what findings answer, with one finding more. No public clause cites them; proofs of the crates above do.
 use Rattle.std.proofs.Common.{◌≡◌, ◌⊎◌, ◌↔◌, inl, inr, ℕ, ◌+◌, ◌≤◌, List, [], ◌∷◌, ◌++◌, refl, sym, ap, subst, ◌∙◌}
-use Rattle.std.proofs.Common.{arith, append_assoc}
+use Rattle.std.proofs.Common.{arith, append_assoc, Bool, true, false, cond, filter}
 use Rattle.std.specs.List.{Any, Contains}
 use Rattle.std.specs.List.Sorted.{IsStrictlyIncreasing}
-use Rattle.std.proofs.lemmas.List.Elements.{All-contains, Contains-append_left, Contains-push, Contains-push_cases}
+use Rattle.std.proofs.lemmas.Bool.{false≢true}
+use Rattle.std.proofs.lemmas.List.Elements.{All-contains, All-contains_itself, All-filter, Contains-append_left}
+use Rattle.std.proofs.lemmas.List.Elements.{Contains-push, Contains-push_cases, filter_passes}
 use Rattle.dist_base.specs.ListLaws.{any-contained, any-there}
 use Rattle.dist_base.specs.RowLaws.{same-numbers}
 use Rattle.dist_cert.specs.ClaimRules.{yes}
 use Rattle.dist_cert.specs.Form.{Word}
+use Rattle.dist_cert.specs.ListLaws.{contains-cases, contains-later}
 use Rattle.dist_cert.specs.Rising.{AreRising}
 use Rattle.dist_explain.specs.Answered.{AreLast, IsOfRelation, NoneRefuted, RefutesSome, Selects}
 use Rattle.dist_explain.specs.declared.asked.Asked.{Asked}
@@ -22,6 +25,34 @@ increasing-from numbers rising k within = rising k (k + 1) 0 (omega arith) withi
 pub one-rising : (xs ys : List ℕ) → AreRising xs → AreRising ys → ((k : ℕ) → Contains xs k ↔ Contains ys k) → ys ≡ xs
 one-rising xs ys first second same =
     same-numbers xs ys (increasing-from xs first) (increasing-from ys second) (λ k. (same k).0) (λ k. (same k).1)
+
+-- ---- what a filter keeps
+
+kept-there : (p : ℕ → Bool) (xs : List ℕ) (x : ℕ) → Contains xs x → p x ≡ true → Contains (filter p xs) x
+kept-there p [] x there holds = absurd (omega (arith, there.1))
+kept-there p (y ∷ xs) x there holds = elim (contains-cases y xs x there) [
+  | inl same ↦ by (p y) (ap p same ∙ holds) (inl same)
+  | inr later ↦ by-any (p y) (kept-there p xs x later holds)
+]
+  where
+    by : (b : Bool) → b ≡ true → (y ≡ x) ⊎ Contains (filter p xs) x
+        → Contains (cond b (y ∷ filter p xs) (filter p xs)) x
+    by true is (inl same) = (0, omega arith, same)
+    by true is (inr later) = contains-later y (filter p xs) x later
+    by false is some = absurd (false≢true is)
+
+    by-any : (b : Bool) → Contains (filter p xs) x → Contains (cond b (y ∷ filter p xs) (filter p xs)) x
+    by-any true later = contains-later y (filter p xs) x later
+    by-any false later = later
+
+pub kept : (p : ℕ → Bool) (xs : List ℕ) (x : ℕ) → Contains (filter p xs) x ↔ (Contains xs x × (p x ≡ true))
+kept p xs x = (
+  (λ there. (
+    All-contains (Contains xs) (filter p xs) x (All-filter p (Contains xs) xs (All-contains_itself xs)) there,
+    All-contains (λ y. p y ≡ true) (filter p xs) x (filter_passes p xs) there,
+  )),
+  (λ both. kept-there p xs x both.0 both.1),
+)
 
 -- ---- one element more
 

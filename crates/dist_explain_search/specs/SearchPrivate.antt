@@ -1,5 +1,5 @@
 -- Serves private contracts: where the search stands, and what a question more comes to.
-use Rattle.std.specs.Prelude.{◌≡◌, ◌⊎◌, ℕ, ◌+◌, ◌≤◌, List, [], ◌∷◌, ◌++◌, All, Any, Contains, length, map}
+use Rattle.std.specs.Prelude.{◌≡◌, ◌==◌, ◌⊎◌, ℕ, ◌+◌, ◌≤◌, List, [], ◌∷◌, ◌++◌, All, Any, Contains, filter, length, map, not}
 use Rattle.dist_outside.specs.DeskView.{DeskView, FileGrew}
 use Rattle.dist_outside.specs.declared.trouble.WorkError.{WorkError}
 use Rattle.dist_cert.specs.ClaimRules.{yes}
@@ -8,7 +8,7 @@ use Rattle.dist_cert.specs.Form.{Word}
 use Rattle.dist_cert.specs.Rising.{AreRising}
 use Rattle.dist_cert.specs.declared.records.CertRecord.{CertRecord}
 use Rattle.dist_cert.specs.declared.records.CertRecord.TheVariants.{Question, Refuted}
-use Rattle.dist_explain.specs.Answered.{AreAllBut, AreLast, IsOfRelation, Selects}
+use Rattle.dist_explain.specs.Answered.{AreAllBut, AreAnswered, AreLast, IsOfRelation, Selects}
 use Rattle.dist_explain.specs.ExplanationFiles.{asked_by}
 use Rattle.dist_explain.specs.NotesPrivate.{AreNotesOf, IsMarkedIn, NotesView}
 use Rattle.dist_explain.specs.declared.asked.Asked.{Asked}
@@ -32,6 +32,16 @@ pub record AreNumbers (asked : Asked) (numbers : List ℕ) : Type 0 where
   pub rising : AreRising numbers
   pub in_range : All (IsOfRelation asked) numbers
 
+-- all of them but one
+abbrev pub others_of : List ℕ → ℕ → List ℕ
+others_of numbers one = filter (λ number. not (number == one)) numbers
+
+-- numbers of relations that are some of these
+pub record IsSmaller (asked : Asked) (numbers fewer : List ℕ) : Type 0 where
+  pub are : AreNumbers asked fewer
+  pub within : All (Contains numbers) fewer
+  pub few : length fewer ≤ length numbers
+
 -- So many variables are those of the packages and the relations, and the package is one of them.
 pub record FitsAsked (asked : Asked) (variables : ℕ) : Type 0 where
   pub all : asked.packages + asked.relations ≡ variables
@@ -50,16 +60,16 @@ pub record IsSearching (g : Setting) (asked : Asked) (lines : List CertRecord) (
   pub at : IsAt g lines a
   pub noted : AreNotesOf asked (findings lines) notes
 
--- The question of the core is the last that is refuted, by a line that was tested. Of the core, these have their marks;
--- and each question so far is on as many relations or more, or on all but one of these.
+-- The question of the core is the last that is refuted, and no model has the core. Of the core, these have their marks.
+-- Each question so far that is on relations of the core alone is on all of it, or on all but one of those with marks.
 pub record IsAtCore (g : Setting) (asked : Asked) (lines : List CertRecord) (core : List ℕ) (later : List Finding)
     (marked : List ℕ) : Type 0 where
   pub are_last : AreLast asked (findings lines) core later
   pub refuted : Says g (question_of asked core) (answers.Refuted [])
   pub have_marks : All (IsMarkedIn asked core later) marked
   pub so_far : (question : List Word) (numbers : List ℕ) → Contains lines (Question question)
-      → Selects asked question numbers
-      → (length core ≤ length numbers) ⊎ Any (λ one. AreAllBut core one numbers) marked
+      → Selects asked question numbers → All (Contains core) numbers
+      → All (Contains numbers) core ⊎ Any (λ one. AreAllBut core one numbers) marked
 
 -- the core of which these have their marks
 abbrev pub Marks : Asked → (core marked : List ℕ) → Setting → List CertRecord → Type 0
@@ -69,6 +79,10 @@ Marks asked core marked g lines = (later : List Finding) × IsAtCore g asked lin
 abbrev pub HasJust : Asked → (core : List ℕ) → Setting → List CertRecord → Type 0
 HasJust asked core g lines = (earlier : List CertRecord) × (hints : List ℕ) × (lines ≡ earlier ++ Refuted hints ∷ [])
     × IsAtCore g asked lines core [] []
+
+-- what the lines find has an answer
+abbrev pub IsAnsweredAt : Asked → Setting → List CertRecord → Type 0
+IsAnsweredAt asked g lines = AreAnswered asked (findings lines)
 
 -- ---- what is written behind some lines
 

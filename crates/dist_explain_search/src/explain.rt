@@ -8,7 +8,6 @@ ghost use Rattle.dist_explain.specs.Verdicts.{AcceptedMeans};
 ghost use Rattle.dist_explain_search.specs.ExplainAnswers.{ExplainAnswers, TellsFirst};
 
 use crate::search::ExplainSearch;
-use dist_cert::forms_are_clear;
 use dist_explain::{
     Asked, Explained, Explaining, Notes, accepted_explanations_hold, selected_inputs,
 };
@@ -38,12 +37,13 @@ pub fn explain<D: Desk>(
     ensures first { TellsFirst repo.now limits.now result }
     ensures means { IfOk result (AcceptedMeans repo.now (record { limit = limit; «package» = «package» })) }
 {
-    forms_are_clear();
     accepted_explanations_hold();
     let set = selected_inputs(alloc, repo, limits)?;
+    let packages = repo.len();
+    let variables = set.variables();
     let asked = Asked {
-        packages: repo.len(),
-        relations: set.variables() - repo.len(),
+        packages,
+        relations: variables - packages,
         number: package + 1,
     };
     let numbers = vec![in alloc; limit, asked.packages, asked.relations, asked.number]?;

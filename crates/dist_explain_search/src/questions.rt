@@ -1,9 +1,11 @@
 //! Which relations a question is on.
-ghost use Rattle.std.specs.Prelude.{◌≡◌, ◌+◌, ◌++◌, ◌<◌, ◌^◌, All, IfOk, drop, length, take};
+ghost use Rattle.std.specs.Prelude.{◌≡◌, ◌↔◌, ◌+◌, ◌++◌, ◌<◌, ◌^◌, All, Contains, IfOk, IsTrue};
 ghost use Rattle.std.specs.List.{range_with_len};
+ghost use Rattle.dist_cert.specs.Rising.{AreRising};
 ghost use Rattle.dist_explain.specs.Answered.{IsOfRelation};
-ghost use Rattle.dist_explain_search.specs.SearchPrivate.{question_of};
+ghost use Rattle.dist_explain_search.specs.SearchPrivate.{others_of, question_of};
 
+use dist_check_group::has;
 use dist_explain::Asked;
 use std::alloc::{AllocError, Global};
 
@@ -18,14 +20,34 @@ pub(crate) fn all_numbers(alloc: Global, count: u32) -> Result<Vec<u32>, AllocEr
     Ok(numbers)
 }
 
-/// The numbers but for the one at a place.
-pub(crate) fn all_but(alloc: Global, numbers: &[u32], place: usize) -> Result<Vec<u32>, AllocError>
-    requires { place < length numbers.now }
-    ensures { IfOk result (λ others. others.items ≡ take place numbers.now ++ drop (place + 1) numbers.now) }
+/// The numbers but for one.
+pub(crate) fn all_but(alloc: Global, numbers: &[u32], one: u32) -> Result<Vec<u32>, AllocError>
+    ensures { IfOk result (λ others. others.items ≡ others_of numbers.now one) }
 {
-    let mut others = numbers[..place].to_vec(alloc)?;
-    others.extend_from_slice(&numbers[place + 1..])?;
+    let mut others = Vec::new(alloc);
+    for number in numbers {
+        if *number != one {
+            others.push(*number)?;
+        }
+    }
     Ok(others)
+}
+
+/// Whether a number is one of the core and none of those that are done.
+pub(crate) fn is_open(core: &[u32], done: &[u32], one: u32) -> bool
+    requires { AreRising core.now }
+    ensures { IsTrue result ↔ (Contains core.now one × (¬ Contains done.now one)) }
+{
+    has(core, one) && !done.contains(&one)
+}
+
+/// Some numbers and others behind them.
+pub(crate) fn joined(alloc: Global, first: &[u32], others: &[u32]) -> Result<Vec<u32>, AllocError>
+    ensures { IfOk result (λ both. both.items ≡ first.now ++ others.now) }
+{
+    let mut both = first.to_vec(alloc)?;
+    both.extend_from_slice(others)?;
+    Ok(both)
 }
 
 /// The question of the package and some relations.

@@ -1,15 +1,13 @@
 //! The search.
-ghost use Rattle.std.specs.Prelude.{◌≡◌, ◌+◌, ◌<◌, ◌≤◌, [], IfErr, IfOk, IfSome, MatchOption, OnOk, length, take};
+ghost use Rattle.std.specs.Prelude.{◌≡◌, ◌≤◌, ◌++◌, ◌∷◌, [], ℕ, List, Contains, IfErr, IfOk, IfSome, MatchOption, OnOk};
 ghost use Rattle.dist_outside.specs.Files.{IsWriting};
-ghost use Rattle.dist_explain.specs.Answered.{AreAnswered};
-ghost use Rattle.dist_findings.specs.Findings.{findings};
 ghost use Rattle.dist_sweep.specs.Script.{Grows};
 ghost use Rattle.dist_inquiry.specs.AnswerText.{NoteMore};
 ghost use Rattle.dist_inquiry.specs.Asking.{AskStops};
-ghost use Rattle.dist_explain_search.specs.SearchPrivate.{AreNumbers, FitsAsked, Goes, GoesNot, HasJust, Marks, explain_noting, question_of};
+ghost use Rattle.dist_explain_search.specs.SearchPrivate.{AreNumbers, FitsAsked, Goes, GoesNot, HasJust, IsAnsweredAt, IsSmaller, Marks, explain_noting, others_of, question_of};
 
 use crate::hinted::core_of;
-use crate::questions::{all_but, all_numbers, question_of};
+use crate::questions::{all_but, all_numbers, is_open, joined, question_of};
 use dist_explain::{Asked, Explaining, Notes, marked_relations_are_answered};
 use dist_inquiry::{Inquirer, Inquiring, ask_and_note, refute_and_note};
 use dist_outside::{Desk, WorkError, file_grows};
@@ -74,7 +72,7 @@ impl<'a> ExplainSearch<'a> {
             (D.view desk.old) (D.view desk.new) inquirer.old inquirer.new self.old.notes self.new.notes) }
         ensures err { IfErr result (GoesNot self.old.asked (HasJust self.old.asked numbers.items) (D.view desk.old) (D.view desk.new)
             inquirer.old self.old.notes) }
-        ensures core { IfOk result (λ core. AreNumbers self.old.asked core.items × (length core.items ≤ length numbers.items)) }
+        ensures core { IfOk result (λ core. IsSmaller self.old.asked numbers.items core.items) }
         ensures asked { self.new.asked ≡ self.old.asked }
         ensures variables { inquirer.new.log.variables ≡ inquirer.old.log.variables }
         ensures limit { inquirer.new.limit ≡ inquirer.old.limit }
@@ -99,34 +97,34 @@ impl<'a> ExplainSearch<'a> {
         if refuted { Ok(core) } else { Ok(numbers) }
     }
 
-    /// Asks without the relation of the core at a place. None is answered where that is not refuted, and else the new core.
+    /// Asks for all relations of the core but one. None is answered where that is not refuted, and else the new core.
     fn leave_out<D: Desk>(
         &mut self,
         inquirer: &mut Inquirer,
         desk: &mut D,
         core: &[u32],
-        place: usize,
+        one: u32,
     ) -> Result<Option<Vec<u32>>, WorkError>
         requires writing { IsWriting (D.view desk.old).mode }
         requires limit { 1 ≤ inquirer.old.limit }
         requires fits { FitsAsked self.old.asked inquirer.old.log.variables }
         requires core { AreNumbers self.old.asked core.now }
-        requires place { place < length core.now }
-        ensures ok { IfOk result (λ found. MatchOption found
-            (Goes self.old.asked (Marks self.old.asked core.now (take place core.now)) (Marks self.old.asked core.now (take (place + 1) core.now))
+        requires one { Contains core.now one }
+        ensures ok { (done : List ℕ) → ¬ Contains done one → IfOk result (λ found. MatchOption found
+            (Goes self.old.asked (Marks self.old.asked core.now done) (Marks self.old.asked core.now (done ++ one ∷ []))
                 (D.view desk.old) (D.view desk.new) inquirer.old inquirer.new self.old.notes self.new.notes)
-            (λ fewer. Goes self.old.asked (Marks self.old.asked core.now (take place core.now)) (Marks self.old.asked fewer.items [])
+            (λ fewer. Goes self.old.asked (Marks self.old.asked core.now done) (Marks self.old.asked fewer.items [])
                 (D.view desk.old) (D.view desk.new) inquirer.old inquirer.new self.old.notes self.new.notes)) }
-        ensures err { IfErr result (GoesNot self.old.asked (Marks self.old.asked core.now (take place core.now)) (D.view desk.old) (D.view desk.new)
-            inquirer.old self.old.notes) }
-        ensures fewer { IfOk result (λ found. IfSome found (λ fewer. AreNumbers self.old.asked fewer.items × (length fewer.items < length core.now))) }
+        ensures err { (done : List ℕ) → ¬ Contains done one
+            → IfErr result (GoesNot self.old.asked (Marks self.old.asked core.now done) (D.view desk.old) (D.view desk.new) inquirer.old self.old.notes) }
+        ensures fewer { IfOk result (λ found. IfSome found (λ fewer. IsSmaller self.old.asked (others_of core.now one) fewer.items)) }
         ensures asked { self.new.asked ≡ self.old.asked }
         ensures variables { inquirer.new.log.variables ≡ inquirer.old.log.variables }
         ensures limit { inquirer.new.limit ≡ inquirer.old.limit }
         ensures grows { Grows (D.view desk.old) (D.view desk.new) }
     {
         file_grows();
-        let others = all_but(self.alloc, core, place)?;
+        let others = all_but(self.alloc, core, one)?;
         match self.ask(inquirer, desk, &others)? {
             Answer::Refuted(hints) => {
                 let fewer = self.narrow(inquirer, desk, others, hints.as_slice())?;
@@ -137,7 +135,8 @@ impl<'a> ExplainSearch<'a> {
         }
     }
 
-    /// Leaves out one relation of the core after another, until each has its mark. A smaller core is begun anew.
+    /// Leaves out one relation of the core after another, until each has its mark. With a smaller core the relations that were not
+    /// left out yet come first: the others, which were needed for more, are needed for fewer too.
     fn settle_core<D: Desk>(
         &mut self,
         inquirer: &mut Inquirer,
@@ -148,7 +147,7 @@ impl<'a> ExplainSearch<'a> {
         requires limit { 1 ≤ inquirer.old.limit }
         requires fits { FitsAsked self.old.asked inquirer.old.log.variables }
         requires first { AreNumbers self.old.asked first.items }
-        ensures ok { OnOk result (Goes self.old.asked (Marks self.old.asked first.items []) (λ g lines. AreAnswered self.old.asked (findings lines))
+        ensures ok { OnOk result (Goes self.old.asked (Marks self.old.asked first.items []) (IsAnsweredAt self.old.asked)
             (D.view desk.old) (D.view desk.new) inquirer.old inquirer.new self.old.notes self.new.notes) }
         ensures err { IfErr result (GoesNot self.old.asked (Marks self.old.asked first.items []) (D.view desk.old) (D.view desk.new)
             inquirer.old self.old.notes) }
@@ -156,15 +155,20 @@ impl<'a> ExplainSearch<'a> {
     {
         marked_relations_are_answered();
         file_grows();
+        let mut left = first.to_vec(self.alloc)?;
         let mut core = first;
-        let mut place = 0;
-        while place < core.len() {
-            match self.leave_out(inquirer, desk, &core, place)? {
+        let mut done = Vec::new(self.alloc);
+        'tries: while let Some(one) = left.pop() {
+            if !is_open(&core, &done, one) {
+                continue;
+            }
+            match self.leave_out(inquirer, desk, &core, one)? {
                 Some(fewer) => {
                     core = fewer;
-                    place = 0;
+                    left = joined(self.alloc, &done, &left)?;
+                    done.clear();
                 }
-                None => place += 1,
+                None => done.push(one)?,
             }
         }
         Ok(())
@@ -173,6 +177,7 @@ impl<'a> ExplainSearch<'a> {
 
 impl<'a> Inquiring for ExplainSearch<'a> {
     ghost use Rattle.std.specs.Prelude.{◌≡◌, []};
+    ghost use Rattle.dist_explain.specs.Answered.{AreAnswered};
     ghost use Rattle.dist_explain.specs.ExplanationFiles.{asked_by, explanation_files};
     ghost use Rattle.dist_explain.specs.NotesPrivate.{AreNotesOf};
     ghost use Rattle.dist_explain_search.specs.ExplainOrder.{IsNextQuestion};
@@ -184,7 +189,7 @@ impl<'a> Inquiring for ExplainSearch<'a> {
 
     ghost asks = { λ s numbers. IsNextQuestion (asked_by numbers) };
 
-    ghost told = { λ before s numbers found. AreNotesOf (asked_by numbers) found s.notes };
+    ghost told = { λ before s numbers found. AreNotesOf (asked_by numbers) found s.notes × AreAnswered (asked_by numbers) found };
 
     ghost fits = { λ s n. FitsAsked s.asked n };
 
