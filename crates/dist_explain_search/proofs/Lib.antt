@@ -1,6 +1,6 @@
-pub mod Questions
-pub mod Going
-pub mod Asked
-pub mod Cores
-pub mod Settled
-pub mod Explained
+pub mod QuestionLemmas
+pub mod GoingLemmas
+pub mod AskedLemmas
+pub mod CoreLemmas
+pub mod SettledLemmas
+pub mod ExplainedLemmas

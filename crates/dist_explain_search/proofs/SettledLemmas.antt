@@ -32,9 +32,9 @@ use Rattle.dist_inquiry.specs.Inquiring.{MaySettle, SettleMore, SettleStops}
 use Rattle.dist_inquiry.specs.Inquiry.{AreAsked, Setting, Stops}
 use Rattle.dist_explain_search.specs.ExplainOrder.{IsNextQuestion}
 use Rattle.dist_explain_search.specs.SearchPrivate.{FitsAsked, Goes, GoesNot, HasJust, IsAnsweredAt, IsSearching, Marks, explain_noting, question_of}
-use Rattle.dist_explain_search.proofs.Asked.{IsAskedFor, asked-for, just-refuted}
-use Rattle.dist_explain_search.proofs.Going.{Place, goes-on}
-use Rattle.dist_explain_search.proofs.Questions.{all-are, all-have, question-selects, question-true}
+use Rattle.dist_explain_search.proofs.AskedLemmas.{IsAskedFor, asked-for, just-refuted}
+use Rattle.dist_explain_search.proofs.GoingLemmas.{Place, goes-on}
+use Rattle.dist_explain_search.proofs.QuestionLemmas.{all-are, all-have, question-selects, question-true}
 
 -- ---- the first question
 

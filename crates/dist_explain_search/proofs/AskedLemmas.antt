@@ -25,8 +25,8 @@ use Rattle.dist_inquiry.specs.Inquiry.{AreAsked, Setting}
 use Rattle.dist_inquiry.specs.InquiryLaws.{question-asked}
 use Rattle.dist_explain_search.specs.ExplainOrder.{IsNextQuestion}
 use Rattle.dist_explain_search.specs.SearchPrivate.{AreNumbers, Goes, HasJust, IsAtCore, IsSearching, explain_noting, question_of}
-use Rattle.dist_explain_search.proofs.Going.{Place}
-use Rattle.dist_explain_search.proofs.Questions.{question-selects}
+use Rattle.dist_explain_search.proofs.GoingLemmas.{Place}
+use Rattle.dist_explain_search.proofs.QuestionLemmas.{question-selects}
 
 -- ---- which questions stand among lines
 

@@ -27,9 +27,9 @@ use Rattle.dist_inquiry.specs.AnswerText.{NoteMore, finding_of}
 use Rattle.dist_inquiry.specs.Inquiry.{Setting}
 use Rattle.dist_explain_search.specs.ExplainOrder.{IsNextQuestion}
 use Rattle.dist_explain_search.specs.SearchPrivate.{AreNumbers, FitsAsked, Goes, HasJust, IsAtCore, Marks, explain_noting, others_of, question_of}
-use Rattle.dist_explain_search.proofs.Asked.{IsAskedFor, asked-for, just-refuted, same-numbers}
-use Rattle.dist_explain_search.proofs.Questions.{HaveAll, filter-are, filter-within, not-all, one-left, others-but}
-use Rattle.dist_explain_search.proofs.Questions.{question-selects, question-true, true-question}
+use Rattle.dist_explain_search.proofs.AskedLemmas.{IsAskedFor, asked-for, just-refuted, same-numbers}
+use Rattle.dist_explain_search.proofs.QuestionLemmas.{HaveAll, filter-are, filter-within, not-all, one-left, others-but}
+use Rattle.dist_explain_search.proofs.QuestionLemmas.{question-selects, question-true, true-question}
 
 -- ---- fewer relations, right behind the line that refutes the core
 
