@@ -4,3 +4,4 @@ pub mod AskedLemmas
 pub mod CoreLemmas
 pub mod SettledLemmas
 pub mod ExplainedLemmas
+pub mod TryLemmas

@@ -20,4 +20,4 @@ invariant-tries g l = record {
 }
 
 abbrev pub decreases-tries : goal.decreases-tries
-decreases-tries g l = length l.core.items * (length l.fn.first.items + 1) + length l.left.items
+decreases-tries g l = (length l.fn.first.items + 1) * length l.core.items + length l.left.items
