@@ -1,5 +1,5 @@
 -- Lines behind lines: where the search goes in two steps, and where it stops.
-use Rattle.std.proofs.Common.{List, [], ◌++◌, subst, sym, append_assoc, append-nil}
+use Rattle.std.proofs.Common.{◌≡◌, List, [], ◌++◌, Result, IfErr, IsErrAnd, subst, sym, append_assoc, append-nil}
 use Rattle.dist_outside.specs.DeskView.{DeskView, FileGrew}
 use Rattle.dist_outside.specs.declared.trouble.WorkError.{WorkError}
 use Rattle.dist_outside.specs.declared.trouble.WorkError.TheVariants.{NoMemory}
@@ -9,7 +9,7 @@ use Rattle.dist_cert.specs.declared.records.CertRecord.{CertRecord}
 use Rattle.dist_explain.specs.NotesPrivate.{NotesView}
 use Rattle.dist_explain.specs.declared.asked.Asked.{Asked}
 use Rattle.dist_sweep.specs.Asking.{AskerView}
-use Rattle.dist_sweep.specs.ScriptLaws.{BeginsLaw, TwiceLaw, lines-more}
+use Rattle.dist_sweep.specs.ScriptLaws.{BeginsLaw, TwiceLaw, by-exit, lines-more}
 use Rattle.dist_inquiry.specs.Asking.{AskStops}
 use Rattle.dist_inquiry.specs.Inquiry.{Setting}
 use Rattle.dist_inquiry.specs.InquiryLaws.{asked-join, stops-after, stops-asking, stops-for-memory}
@@ -63,3 +63,10 @@ goes-on begins From To asked d a n more g lines searching from = record {
   searching = subst (λ ls. IsSearching g asked ls a n) (sym (append-nil lines)) searching;
   holds = subst (To g) (sym (append-nil lines)) (more g lines searching from);
 }
+
+-- where a `?` hands on why it stopped
+pub exit-stops : {X : Type 0} (asked : Asked) (From : Place) (old new : DeskView) (a : AskerView) (n : NotesView) (error : WorkError)
+    (result : Result X WorkError) → IsErrAnd result (λ e. e ≡ error) → GoesNot asked From old new a n error
+    → IfErr result (GoesNot asked From old new a n)
+exit-stops {X} asked From old new a n error result is stops =
+    by-exit (λ (r : Result X WorkError). IfErr r (GoesNot asked From old new a n)) result error is stops
