@@ -1,5 +1,7 @@
 -- Lines behind lines: where the search goes in two steps, and where it stops.
-use Rattle.std.proofs.Common.{◌≡◌, List, [], ◌++◌, Result, IfErr, IsErrAnd, subst, sym, append_assoc, append-nil}
+use Rattle.std.proofs.Common.{◌≡◌, List, [], ◌++◌, Result, subst, sym, append_assoc, append-nil}
+use Rattle.std.specs.Prelude.{IfErr}
+use Rattle.std.specs.Result.{IsErrAnd}
 use Rattle.dist_outside.specs.DeskView.{DeskView, FileGrew}
 use Rattle.dist_outside.specs.declared.trouble.WorkError.{WorkError}
 use Rattle.dist_outside.specs.declared.trouble.WorkError.TheVariants.{NoMemory}

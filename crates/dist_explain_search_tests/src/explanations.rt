@@ -15,7 +15,7 @@ const NEEDS_ENEMY: &str =
 const NEEDED: &str =
     "Package: a\nVersion: 1\nDepends: b\n\nPackage: b\nVersion: 1\nConflicts: a\n\nPackage: z\nVersion: 1\nDepends: a\n";
 
-/// Package a needs one of b and c, and conflicts with both; and it needs one of b and d, which is missing.
+/// Package a needs b or d, which is missing, and conflicts with b; c needs both.
 const CROWDED: &str =
     "Package: a\nVersion: 1\nDepends: b | d\nConflicts: b\n\nPackage: b\nVersion: 1\n\nPackage: c\nVersion: 1\nDepends: a, b\n";
 
