@@ -1,5 +1,6 @@
 -- The number that what files are judged by passes first.
-use Rattle.std.proofs.Common.{◌≡◌, inl, inr, ◌≤◌, Bool, false, List, length, Result, Ok, Err, refl, sym, ap, ◌∙◌, arith}
+use Rattle.std.proofs.Common.{◌≡◌, inl, inr, ◌≤◌, Bool, false, List, length, Result, Ok, Err, refl, sym, ap, subst, ◌∙◌, arith}
+use Rattle.std.specs.Result.{IsErrAnd}
 use Rattle.dist_base.specs.Answers.{IsExactly}
 use Rattle.dist_outside.specs.declared.limits.Limits.{Limits}
 use Rattle.dist_outside.specs.declared.trouble.What.{What}
@@ -93,15 +94,8 @@ module _ (laws : Present) (r : PackageList) (limits : Limits) where
       (λ passes. (exact not).1 (selected-passes what passes)),
     )
 
-    pub cause-late : (error : WorkError) → IsLarge (PassesSelected limits plain) error → IsLarge (PassesFirst r limits) error
-    cause-late (TooLarge what) passes = with-selectors what passes
-    cause-late NoMemory passes = tt
-    cause-late ReadFault passes = passes
-    cause-late WriteFault passes = passes
-
-pub cause-early : (r : PackageList) (limits : Limits) (error : WorkError) → IsLarge (PassesPresent r false limits) error
-    → IsLarge (PassesFirst r limits) error
-cause-early r limits (TooLarge what) passes = inl passes
-cause-early r limits NoMemory passes = tt
-cause-early r limits ReadFault passes = passes
-cause-early r limits WriteFault passes = passes
+-- the error that a `?` hands on
+pub handed-on : {X : Type 0} (P : Result X WorkError → Type 0) (result : Result X WorkError) (error : WorkError) → IsErrAnd result (λ e. e ≡ error)
+    → P (Err error) → P result
+handed-on P (Ok x) error is holds = absurd is
+handed-on P (Err e) error is holds = subst (λ y. P (Err y)) (sym is) holds

@@ -72,3 +72,10 @@ pub exit-stops : {X : Type 0} (asked : Asked) (From : Place) (old new : DeskView
     → IfErr result (GoesNot asked From old new a n)
 exit-stops {X} asked From old new a n error result is stops =
     by-exit (λ (r : Result X WorkError). IfErr r (GoesNot asked From old new a n)) result error is stops
+
+-- the same, where nothing has changed
+pub goes-still : (asked : Asked) (From To : Place) (old new : DeskView) (a b : AskerView) (n m : NotesView) → new ≡ old → b ≡ a → m ≡ n
+    → Goes asked From To old old a a n n → Goes asked From To old new a b n m
+goes-still asked From To old new a b n m desk inquirer notes goes =
+    subst (λ (d : DeskView). Goes asked From To old d a b n m) (sym desk) (subst (λ (x : AskerView). Goes asked From To old old a x n m) (sym inquirer)
+    (subst (λ (x : NotesView). Goes asked From To old old a a n x) (sym notes) goes))

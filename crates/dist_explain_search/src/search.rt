@@ -130,7 +130,7 @@ impl<'a> ExplainSearch<'a> {
                 let fewer = self.narrow(inquirer, desk, others, hints.as_slice())?;
                 Ok(Some(fewer))
             }
-            Answer::Found(_) => Ok(None),
+            Answer::Found(_values) => Ok(None),
             Answer::Undecided => Ok(None),
         }
     }
@@ -205,7 +205,7 @@ impl<'a> Inquiring for ExplainSearch<'a> {
                 let core = self.narrow(inquirer, desk, all, hints.as_slice())?;
                 self.settle_core(inquirer, desk, core)
             }
-            Answer::Found(_) => Ok(()),
+            Answer::Found(_values) => Ok(()),
             Answer::Undecided => Ok(()),
         }
     }
