@@ -1,11 +1,11 @@
 -- The question of some relations: which they are, and what its truth says; and lists of numbers with fewer of them.
 use Rattle.std.proofs.Common.{◌≡◌, ◌≢◌, ◌⊎◌, ◌↔◌, inl, inr, ℕ, ◌+◌, ◌-◌, ◌<◌, ◌≤◌, ◌==◌, Bool, true, false, not, List, [], ◌∷◌, length, map, filter}
-use Rattle.std.proofs.Common.{refl, sym, ap, subst, ◌∙◌, arith, get_or}
+use Rattle.std.proofs.Common.{◌++◌, map-id, refl, sym, ap, subst, ◌∙◌, arith, get_or}
 use Rattle.std.specs.List.{All, AllPairs, Any, Contains, range_with_len}
 use Rattle.std.proofs.lemmas.Bool.{cases_eq, eq-eqb, eqb-true, false≢true, true≢false}
 use Rattle.std.proofs.lemmas.List.Elements.{All-cons, All-contains, All-filter, All-head, All-map, All-tail, All-contains_itself}
 use Rattle.std.proofs.lemmas.List.Filters.{length-filter_both}
-use Rattle.std.proofs.lemmas.List.FromFn.{get_or-range_with_len, length-range_with_len}
+use Rattle.std.proofs.lemmas.List.FromFn.{get_or-range_with_len, length-range_with_len, map-range_with_len_more}
 use Rattle.std.proofs.lemmas.List.Kept.{AllPairs-cons, AllPairs-filter}
 use Rattle.dist_base.specs.ListLaws.{all-contained, any-cases, any-contained, any-head, any-later, any-there}
 use Rattle.dist_clause.specs.Formula.{IsTrueLiteral, literal}
@@ -112,6 +112,15 @@ true-question asked value numbers have =
     (all-contained (λ number. value (asked.packages + number) ≡ true) numbers have.1)))
 
 -- ---- all relations
+
+-- one number more
+pub range-more : (count : ℕ) → range_with_len 1 count ++ (count + 1) ∷ [] ≡ range_with_len 1 (count + 1)
+range-more count =
+    let same : 1 + count ≡ count + 1 = omega arith in
+    let last : range_with_len 1 count ++ (1 + count) ∷ [] ≡ range_with_len 1 (count + 1) =
+    ap (λ (ns : List ℕ). ns ++ (1 + count) ∷ []) (sym (map-id (range_with_len 1 count)))
+    ∙ sym (map-range_with_len_more (λ k. k) 1 count (1 + count) refl) ∙ map-id (range_with_len 1 (count + 1)) in
+    ap (λ (n : ℕ). range_with_len 1 count ++ n ∷ []) (sym same) ∙ last
 
 all-there : (count number : ℕ) → 1 ≤ number → number ≤ count → Contains (range_with_len 1 count) number
 all-there count number from upto =

@@ -7,9 +7,9 @@
 //! is noted as the checker notes it (dist_explain), so that the file is accepted with the answer.
 #![tactic(auto)]
 
-mod explain;
+mod file;
 mod hinted;
 mod questions;
 mod search;
 
-pub use explain::explain;
+pub use file::explain;

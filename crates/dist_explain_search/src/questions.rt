@@ -1,5 +1,5 @@
 //! Which relations a question is on.
-ghost use Rattle.std.specs.Prelude.{◌≡◌, ◌↔◌, ◌+◌, ◌++◌, ◌<◌, ◌^◌, All, Contains, IfOk, IsTrue};
+ghost use Rattle.std.specs.Prelude.{◌≡◌, ◌↔◌, ◌+◌, ◌++◌, ◌<◌, ◌^◌, ◌∷◌, [], All, Contains, IfOk, IsTrue, OnOk};
 ghost use Rattle.std.specs.List.{range_with_len};
 ghost use Rattle.dist_cert.specs.Rising.{AreRising};
 ghost use Rattle.dist_explain.specs.Answered.{IsOfRelation};
@@ -39,6 +39,14 @@ pub(crate) fn is_open(core: &[u32], done: &[u32], one: u32) -> bool
     ensures { IsTrue result ↔ (Contains core.now one × (¬ Contains done.now one)) }
 {
     has(core, one) && !done.contains(&one)
+}
+
+/// Adds a number.
+pub(crate) fn add(numbers: &mut Vec<u32>, number: u32) -> Result<(), AllocError>
+    ensures { OnOk result (numbers.new.items ≡ numbers.old.items ++ number ∷ []) }
+{
+    numbers.push(number)?;
+    Ok(())
 }
 
 /// Some numbers and others behind them.

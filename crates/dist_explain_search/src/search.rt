@@ -7,7 +7,7 @@ ghost use Rattle.dist_inquiry.specs.Asking.{AskStops};
 ghost use Rattle.dist_explain_search.specs.SearchPrivate.{AreNumbers, FitsAsked, Goes, GoesNot, HasJust, IsAnsweredAt, IsSmaller, Marks, explain_noting, others_of, question_of};
 
 use crate::hinted::core_of;
-use crate::questions::{all_but, all_numbers, is_open, joined, question_of};
+use crate::questions::{add, all_but, all_numbers, is_open, joined, question_of};
 use dist_explain::{Asked, Explaining, Notes, marked_relations_are_answered};
 use dist_inquiry::{Inquirer, Inquiring, ask_and_note, refute_and_note};
 use dist_outside::{Desk, WorkError, file_grows};
@@ -168,7 +168,7 @@ impl<'a> ExplainSearch<'a> {
                     left = joined(self.alloc, &done, &left)?;
                     done.clear();
                 }
-                None => done.push(one)?,
+                None => add(&mut done, one)?,
             }
         }
         Ok(())

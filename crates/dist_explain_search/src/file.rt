@@ -1,5 +1,5 @@
 //! The file of an explanation.
-ghost use Rattle.std.specs.Prelude.{◌<◌, ◌≤◌, IfOk, length};
+ghost use Rattle.std.specs.Prelude.{◌≡◌, ◌<◌, ◌≤◌, ◌∷◌, [], IfOk, length};
 ghost use Rattle.dist_base.specs.declared.TheConstants.{MAX_LIMIT};
 ghost use Rattle.dist_outside.specs.Files.{IsNotWriting};
 ghost use Rattle.dist_repo.specs.Size.{IsWithinSize};
@@ -14,7 +14,15 @@ use dist_explain::{
 use dist_inquiry::{Inquirer, write_inquiry};
 use dist_outside::{Desk, Limits, WorkError};
 use dist_repo::Repository;
-use std::alloc::Global;
+use std::alloc::{AllocError, Global};
+
+/// The numbers of a first line.
+fn numbers_of(alloc: Global, limit: u32, asked: &Asked) -> Result<Vec<u32>, AllocError>
+    ensures { IfOk result (λ numbers. numbers.items ≡ limit ∷ asked.now.packages ∷ asked.now.relations ∷ asked.now.number ∷ []) }
+{
+    let numbers = vec![in alloc; limit, asked.packages, asked.relations, asked.number]?;
+    Ok(numbers)
+}
 
 /// Writes a file that explains why a package can't be installed, or shows that it can, to the file of that name, and tells the
 /// answer. The package is numbered from 0. So many derived lines leave a question undecided.
@@ -46,7 +54,7 @@ pub fn explain<D: Desk>(
         relations: variables - packages,
         number: package + 1,
     };
-    let numbers = vec![in alloc; limit, asked.packages, asked.relations, asked.number]?;
+    let numbers = numbers_of(alloc, limit, &asked)?;
     // What this call tells is that the clauses are over the variables.
     let _count = set.len();
     let mut inquirer = Inquirer::new(alloc, set, limit, limits)?;
