@@ -1,8 +1,9 @@
 -- The question of some relations: which they are, and what its truth says; and lists of numbers with fewer of them.
 use Rattle.std.proofs.Common.{◌≡◌, ◌≢◌, ◌⊎◌, ◌↔◌, inl, inr, ℕ, ◌+◌, ◌-◌, ◌<◌, ◌≤◌, ◌==◌, Bool, true, false, not, List, [], ◌∷◌, length, map, filter}
 use Rattle.std.proofs.Common.{◌++◌, map-id, refl, sym, ap, subst, ◌∙◌, arith, get_or}
-use Rattle.std.specs.List.{All, AllPairs, Any, Contains, range_with_len}
-use Rattle.std.proofs.lemmas.Bool.{cases_eq, eq-eqb, eqb-true, false≢true, true≢false}
+use Rattle.std.specs.Bool.{IsTrue}
+use Rattle.std.specs.List.{All, AllPairs, Any, Contains, list_any, range_with_len}
+use Rattle.std.proofs.lemmas.Bool.{cases_eq, eq-eqb, eqb-true, false≢true, or_cases, or_left, or_right}
 use Rattle.std.proofs.lemmas.List.Elements.{All-cons, All-contains, All-filter, All-head, All-map, All-tail, All-contains_itself}
 use Rattle.std.proofs.lemmas.List.Filters.{length-filter_both}
 use Rattle.std.proofs.lemmas.List.FromFn.{get_or-range_with_len, length-range_with_len, map-range_with_len_more}
@@ -12,8 +13,8 @@ use Rattle.dist_clause.specs.Formula.{IsTrueLiteral, literal}
 use Rattle.dist_cert.specs.ClaimRules.{yes}
 use Rattle.dist_cert.specs.Form.{Word}
 use Rattle.dist_cert.specs.Groups.{clause_of}
-use Rattle.dist_cert.specs.ListLaws.{contains-cases, contains-later, pairs-map}
-use Rattle.dist_cert.specs.Rising.{AreRising}
+use Rattle.dist_cert.specs.ListLaws.{contains-cases, contains-later, from-any, pairs-map}
+use Rattle.dist_cert.specs.Rising.{AreRising, is_among}
 use Rattle.dist_explain.specs.Answered.{AreAllBut, IsOfRelation, Selects}
 use Rattle.dist_explain.specs.AnsweredLaws.{kept, one-rising}
 use Rattle.dist_explain.specs.declared.asked.Asked.{Asked}
@@ -195,3 +196,31 @@ one-left numbers one other others but there lacks = elim (cases_eq other one) [
   | inl same ↦ same
   | inr apart ↦ absurd (lacks ((but.exact other).1 (there, apart)))
 ]
+
+-- ---- what is still to be left out
+
+-- a number of the core that is not done
+pub open-by : (core done : List ℕ) (one : ℕ) (b : Bool) → is_among core one ≡ true → b ≡ list_any (λ y. y == one) done
+    → IsTrue (not b) ↔ (Contains core one × (¬ Contains done one))
+open-by core done one b has is = (
+  (λ yes. (from-any one core has, λ there. false≢true (sym (ap not (is ∙ some done there)) ∙ yes))),
+  (λ both. by b is both.1),
+)
+  where
+    some : (xs : List ℕ) → Contains xs one → list_any (λ y. y == one) xs ≡ true
+    some [] there = absurd (omega (arith, there.1))
+    some (x ∷ xs) there = elim (contains-cases x xs one there) [
+      | inl same ↦ or_left (x == one) (list_any (λ y. y == one) xs) (eq-eqb x one same)
+      | inr later ↦ or_right (x == one) (list_any (λ y. y == one) xs) (some xs later)
+    ]
+
+    back : (xs : List ℕ) → list_any (λ y. y == one) xs ≡ true → Contains xs one
+    back [] any = absurd (false≢true any)
+    back (x ∷ xs) any = elim (or_cases (x == one) (list_any (λ y. y == one) xs) any) [
+      | inl here ↦ (0, omega arith, eqb-true x one here)
+      | inr later ↦ contains-later x xs one (back xs later)
+    ]
+
+    by : (a : Bool) → a ≡ list_any (λ y. y == one) done → ¬ Contains done one → not a ≡ true
+    by true same none = absurd (none (back done (sym same)))
+    by false same none = refl
