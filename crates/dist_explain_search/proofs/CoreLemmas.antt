@@ -3,7 +3,7 @@ use Rattle.std.proofs.Common.{◌≡◌, ◌≢◌, ◌⊎◌, ◌==◌, inl, in
 use Rattle.std.proofs.Common.{refl, sym, ap, subst, ◌∙◌, arith}
 use Rattle.std.specs.List.{All, Any, Contains}
 use Rattle.std.proofs.lemmas.Bool.{cases_eq}
-use Rattle.std.proofs.lemmas.List.Elements.{All-contains, All-push, All-weaker}
+use Rattle.std.proofs.lemmas.List.Elements.{All-contains, All-contains_itself, All-push, All-weaker}
 use Rattle.dist_base.specs.ListLaws.{all-contained, any-there}
 use Rattle.dist_clause.specs.Formula.{value_of}
 use Rattle.dist_outside.specs.DeskView.{DeskView}
@@ -26,9 +26,11 @@ use Rattle.dist_sweep.specs.Words.{true_variables}
 use Rattle.dist_inquiry.specs.AnswerText.{NoteMore, finding_of}
 use Rattle.dist_inquiry.specs.Inquiry.{Setting}
 use Rattle.dist_explain_search.specs.ExplainOrder.{IsNextQuestion}
-use Rattle.dist_explain_search.specs.SearchPrivate.{AreNumbers, FitsAsked, Goes, HasJust, IsAtCore, Marks, explain_noting, others_of, question_of}
+use Rattle.dist_explain_search.specs.SearchPrivate.{AreNumbers, FitsAsked, Goes, HasJust, IsAtCore, IsSmaller, Marks, explain_noting, others_of, question_of}
+use Rattle.dist_sweep.specs.ScriptLaws.{BeginsLaw}
 use Rattle.dist_explain_search.proofs.AskedLemmas.{IsAskedFor, asked-for, just-refuted, same-numbers}
-use Rattle.dist_explain_search.proofs.QuestionLemmas.{HaveAll, filter-are, filter-within, not-all, one-left, others-but}
+use Rattle.dist_explain_search.proofs.GoingLemmas.{goes-on}
+use Rattle.dist_explain_search.proofs.QuestionLemmas.{filter-are, filter-few, filter-within, not-all, one-left, others-but}
 use Rattle.dist_explain_search.proofs.QuestionLemmas.{question-selects, question-true, true-question}
 
 -- ---- fewer relations, right behind the line that refutes the core
@@ -222,3 +224,33 @@ module _ (asked : Asked) (core : List ℕ) (one : ℕ) (done : List ℕ) (are : 
                 (λ k among apart. (true-selector k among).1 (have.1 k ((but.exact k).1 (among, apart))));
           },
         ))
+
+-- ---- where the fewer relations are known by an equation
+
+module _ (asked : Asked) (numbers core : List ℕ) (p : ℕ → Bool) (are : AreNumbers asked numbers) (is : core ≡ filter p numbers) where
+  pub smaller-by : IsSmaller asked numbers core
+  smaller-by = subst (IsSmaller asked numbers) (sym is)
+      (record { are = filter-are asked p numbers are; within = filter-within p numbers; few = filter-few p numbers })
+
+  pub next-by : asked.number ≤ asked.packages → length core < length numbers → (g : Setting) (lines : List CertRecord) → HasJust asked numbers g lines
+      → IsNextQuestion asked lines (question_of asked core)
+  next-by upto less g lines just =
+      subst (λ (ns : List ℕ). IsNextQuestion asked lines (question_of asked ns)) (sym is)
+      (core-next asked numbers p upto are (subst (λ (ns : List ℕ). length ns < length numbers) is less) g lines just)
+
+  pub narrowed-by : asked.number ≤ asked.packages → length core < length numbers → (old new : DeskView) (a b : AskerView) (n m : NotesView) (hints : List ℕ)
+      → NoteMore explain_noting old new a b n m (question_of asked core) (answers.Refuted hints)
+      → Goes asked (HasJust asked numbers) (Marks asked core []) old new a b n m
+  narrowed-by upto less old new a b n m hints more =
+      subst (λ (ns : List ℕ). Goes asked (HasJust asked numbers) (Marks asked ns []) old new a b n m) (sym is)
+      (core-narrowed asked numbers p upto are (subst (λ (ns : List ℕ). length ns < length numbers) is less) old new a b n m hints
+      (subst (λ (ns : List ℕ). NoteMore explain_noting old new a b n m (question_of asked ns) (answers.Refuted hints)) is more))
+
+-- the same relations
+pub smaller-same : (asked : Asked) (numbers : List ℕ) → AreNumbers asked numbers → IsSmaller asked numbers numbers
+smaller-same asked numbers are = record { are = are; within = All-contains_itself numbers; few = omega arith }
+
+pub marks-just : BeginsLaw → (asked : Asked) (numbers : List ℕ) (d : DeskView) (a : AskerView) (n : NotesView)
+    → Goes asked (HasJust asked numbers) (Marks asked numbers []) d d a a n n
+marks-just begins asked numbers d a n =
+    goes-on begins (HasJust asked numbers) (Marks asked numbers []) asked d a n (λ g lines searching just. ([], just.3))
