@@ -1,5 +1,7 @@
 -- The search from its first question to its answer.
-use Rattle.std.proofs.Common.{◌≡◌, ◌⊎◌, inl, inr, ℕ, ◌+◌, ◌≤◌, Bool, List, [], ◌∷◌, ◌++◌, length, refl, sym, ap, subst, ◌∙◌, arith}
+use Rattle.std.proofs.Common.{◌≡◌, ◌⊎◌, inl, inr, ℕ, ◌+◌, ◌≤◌, Bool, List, [], ◌∷◌, ◌++◌, length, Result, refl, sym, ap, subst, ◌∙◌, arith}
+use Rattle.std.specs.Prelude.{IfErr}
+use Rattle.std.specs.Result.{IsErrAnd}
 use Rattle.std.specs.List.{All, Any, Contains, range_with_len}
 use Rattle.std.proofs.lemmas.List.Elements.{All-contains}
 use Rattle.dist_base.specs.ListLaws.{all-contained, any-cases, any-head}
@@ -24,7 +26,7 @@ use Rattle.dist_findings.specs.declared.finding.Finding.TheVariants as finding
 use Rattle.dist_solver.specs.declared.answers.Answer.{Answer}
 use Rattle.dist_solver.specs.declared.answers.Answer.TheVariants as answers
 use Rattle.dist_sweep.specs.Asking.{AskerView}
-use Rattle.dist_sweep.specs.ScriptLaws.{BeginsLaw}
+use Rattle.dist_sweep.specs.ScriptLaws.{BeginsLaw, by-exit}
 use Rattle.dist_sweep.specs.TrueOnesLaws.{true-ones}
 use Rattle.dist_sweep.specs.Words.{true_variables}
 use Rattle.dist_inquiry.specs.AnswerText.{NoteMore, finding_of, setting_of}
@@ -181,3 +183,13 @@ module _ (r : PackageList) (asked : Asked) (old new : DeskView) (a : AskerView) 
   settle-stops-by error goes limits numbers basis may =
       let g = setting_of (explanation_files r) limits basis numbers in
       subst (λ (k : Asked). Stops g (IsNextQuestion k) [] old new error) may.keeps.0 (goes g [] (begun limits numbers basis may) refl)
+
+-- where a `?` hands on why it stopped
+pub exit-settle : {X : Type 0} (r : PackageList) (asked : Asked) (old new : DeskView) (a : AskerView) (n : NotesView) (error : WorkError)
+    (result : Result X WorkError) → IsErrAnd result (λ e. e ≡ error) → GoesNot asked IsStart old new a n error
+    → IfErr result (SettleStops (explanation_files r) (λ numbers. (asked ≡ asked_by numbers) × AreNotesOf (asked_by numbers) [] n)
+    (λ numbers. IsNextQuestion (asked_by numbers)) old new a)
+exit-settle {X} r asked old new a n error result is goes =
+    by-exit (λ (x : Result X WorkError). IfErr x (SettleStops (explanation_files r)
+    (λ numbers. (asked ≡ asked_by numbers) × AreNotesOf (asked_by numbers) [] n) (λ numbers. IsNextQuestion (asked_by numbers)) old new a)) result error is
+    (settle-stops-by r asked old new a n error goes)
