@@ -155,9 +155,9 @@ impl<'a> ExplainSearch<'a> {
     {
         marked_relations_are_answered();
         file_grows();
-        let mut left = first.to_vec(self.alloc)?;
-        let mut core = first;
         let mut done = Vec::new(self.alloc);
+        let mut left = joined(self.alloc, &first, &done)?;
+        let mut core = first;
         'tries: while let Some(one) = left.pop() {
             if !is_open(&core, &done, one) {
                 continue;

@@ -19,7 +19,7 @@ use Rattle.dist_explain_search.specs.ExplainOrder.{IsNextQuestion}
 use Rattle.dist_explain_search.specs.SearchPrivate.{AreNumbers, Goes, GoesNot, HasJust, IsAnsweredAt, Marks, explain_noting, question_of}
 use Rattle.dist_explain_search.proofs.GoingLemmas.{goes-join, goes-stop, stops-memory, stops-question}
 use Rattle.dist_explain_search.proofs.QuestionLemmas.{all-are}
-use Rattle.dist_explain_search.proofs.SettledLemmas.{IsStart, all_of, exit-settle, first-found, first-next, first-refuted, first-undecided, settled-by}
+use Rattle.dist_explain_search.proofs.SettledLemmas.{IsStart, all_of, exit-settle, first-found, first-next, first-refuted, first-undecided, settle-stops-by, settled-by}
 use Rattle.dist_explain_search.proofs.search.ExplainSearchInquiring.settle.Goals as goal
 
 -- what is told of the words that were passed
@@ -105,3 +105,72 @@ returns-in-Undecided-clause-ok g c =
     (first-undecided asked old mid c.args.inquirer.now c.ask.new.inquirer c.args.self.now.notes c.ask.new.self.notes
     (told-of old mid c.args.inquirer.now c.ask.new.inquirer c.args.self.now.notes c.ask.new.self.notes asked c.deref.result.now (all_of asked)
     c.in_ok-hints.field-0 answers.Undecided is c.in-Undecided.is c.in_ok-hints.ensures.ok))
+
+pub returns-in_ok-core-in-Refuted-clause-ok : goal.returns-in_ok-core-in-Refuted-clause-ok
+returns-in_ok-core-in-Refuted-clause-ok g c =
+    let r : PackageList = c.args.self.now.explaining.repo.now in
+    let asked : Asked = c.args.self.now.asked in
+    let all : List ℕ = all_of asked in
+    let core : List ℕ = c.in_ok-core-in-Refuted.core.items in
+    let old : DeskView = g.D.Desk.view c.args.desk.now in
+    let mid : DeskView = g.D.Desk.view c.ask.new.desk in
+    let late : DeskView = g.D.Desk.view c.narrow.new.desk in
+    let new : DeskView = g.D.Desk.view c.settle_core.new.desk in
+    let a : AskerView = c.args.inquirer.now in
+    let n : NotesView = c.args.self.now.notes in
+    let is = c.deref.ensures.value ∙ c.in_ok-all.ensures in
+    let more = told-of old mid a c.ask.new.inquirer n c.ask.new.self.notes asked c.deref.result.now all c.in_ok-hints.field-0
+    (answers.Refuted c.in-Refuted.hints) is c.in-Refuted.is c.in_ok-hints.ensures.ok in
+    let same : c.narrow.new.self.asked ≡ asked = c.narrow.ensures.asked ∙ c.ask.ensures.asked in
+    let first = first-refuted asked old mid a c.ask.new.inquirer n c.ask.new.self.notes c.in-Refuted.hints c.requires.fits.upto more in
+    let second = subst (λ (k : Asked). Goes k (HasJust k all) (Marks k core []) mid late c.ask.new.inquirer c.narrow.new.inquirer c.ask.new.self.notes
+    c.narrow.new.self.notes) c.ask.ensures.asked
+    (subst (λ (ns : List ℕ). Goes c.ask.new.self.asked (HasJust c.ask.new.self.asked ns) (Marks c.ask.new.self.asked core []) mid late c.ask.new.inquirer
+    c.narrow.new.inquirer c.ask.new.self.notes c.narrow.new.self.notes) c.in_ok-all.ensures c.in_ok-core-in-Refuted.ensures.ok) in
+    on_ok_weaker c.settle_core.result (λ goes.
+    settled-by r asked old new a n c.settle_core.new.inquirer c.settle_core.new.self.notes
+    (goes-join c.file_grows.ensures.twice asked IsStart (Marks asked core []) (IsAnsweredAt asked) old late new a c.narrow.new.inquirer
+    c.settle_core.new.inquirer n c.narrow.new.self.notes c.settle_core.new.self.notes
+    (goes-join c.file_grows.ensures.twice asked IsStart (HasJust asked all) (Marks asked core []) old mid late a c.ask.new.inquirer c.narrow.new.inquirer
+    n c.ask.new.self.notes c.narrow.new.self.notes first second)
+    (subst (λ (k : Asked). Goes k (Marks k core []) (IsAnsweredAt k) late new c.narrow.new.inquirer c.settle_core.new.inquirer c.narrow.new.self.notes
+    c.settle_core.new.self.notes) same goes))) c.settle_core.ensures.ok
+
+pub returns-in_ok-core-in-Refuted-clause-err : goal.returns-in_ok-core-in-Refuted-clause-err
+returns-in_ok-core-in-Refuted-clause-err g c =
+    let r : PackageList = c.args.self.now.explaining.repo.now in
+    let asked : Asked = c.args.self.now.asked in
+    let all : List ℕ = all_of asked in
+    let core : List ℕ = c.in_ok-core-in-Refuted.core.items in
+    let old : DeskView = g.D.Desk.view c.args.desk.now in
+    let mid : DeskView = g.D.Desk.view c.ask.new.desk in
+    let late : DeskView = g.D.Desk.view c.narrow.new.desk in
+    let new : DeskView = g.D.Desk.view c.settle_core.new.desk in
+    let a : AskerView = c.args.inquirer.now in
+    let n : NotesView = c.args.self.now.notes in
+    let is = c.deref.ensures.value ∙ c.in_ok-all.ensures in
+    let more = told-of old mid a c.ask.new.inquirer n c.ask.new.self.notes asked c.deref.result.now all c.in_ok-hints.field-0
+    (answers.Refuted c.in-Refuted.hints) is c.in-Refuted.is c.in_ok-hints.ensures.ok in
+    let same : c.narrow.new.self.asked ≡ asked = c.narrow.ensures.asked ∙ c.ask.ensures.asked in
+    let first = first-refuted asked old mid a c.ask.new.inquirer n c.ask.new.self.notes c.in-Refuted.hints c.requires.fits.upto more in
+    let second = subst (λ (k : Asked). Goes k (HasJust k all) (Marks k core []) mid late c.ask.new.inquirer c.narrow.new.inquirer c.ask.new.self.notes
+    c.narrow.new.self.notes) c.ask.ensures.asked
+    (subst (λ (ns : List ℕ). Goes c.ask.new.self.asked (HasJust c.ask.new.self.asked ns) (Marks c.ask.new.self.asked core []) mid late c.ask.new.inquirer
+    c.narrow.new.inquirer c.ask.new.self.notes c.narrow.new.self.notes) c.in_ok-all.ensures c.in_ok-core-in-Refuted.ensures.ok) in
+    IfErr-weaker c.settle_core.result (GoesNot c.narrow.new.self.asked (Marks c.narrow.new.self.asked core []) late new c.narrow.new.inquirer
+    c.narrow.new.self.notes)
+    (SettleStops (explanation_files r) (λ numbers. (asked ≡ asked_by numbers) × AreNotesOf (asked_by numbers) [] n)
+    (λ numbers. IsNextQuestion (asked_by numbers)) old new a) (λ error stops.
+    settle-stops-by r asked old new a n error
+    (goes-stop c.file_grows.ensures.twice asked IsStart (Marks asked core []) old late new a c.narrow.new.inquirer n c.narrow.new.self.notes error
+    (goes-join c.file_grows.ensures.twice asked IsStart (HasJust asked all) (Marks asked core []) old mid late a c.ask.new.inquirer c.narrow.new.inquirer
+    n c.ask.new.self.notes c.narrow.new.self.notes first second)
+    (subst (λ (k : Asked). GoesNot k (Marks k core []) late new c.narrow.new.inquirer c.narrow.new.self.notes error) same stops))) c.settle_core.ensures.err
+
+pub returns-in_ok-core-in-Refuted-clause-grows : goal.returns-in_ok-core-in-Refuted-clause-grows
+returns-in_ok-core-in-Refuted-clause-grows g c =
+    let twice = c.file_grows.ensures.twice in
+    let both = two-grow twice c.ask.ensures.grows.0 c.narrow.ensures.grows.0 (g.D.Desk.view c.args.desk.now) (g.D.Desk.view c.ask.new.desk)
+    (g.D.Desk.view c.narrow.new.desk) c.ask.ensures.grows.1 c.narrow.ensures.grows.1 in
+    two-grow twice both.0 c.settle_core.ensures.grows.0 (g.D.Desk.view c.args.desk.now) (g.D.Desk.view c.narrow.new.desk)
+    (g.D.Desk.view c.settle_core.new.desk) both.1 c.settle_core.ensures.grows.1
