@@ -151,7 +151,7 @@ CHAPTERS = [
     ("Archives that change by steps, and journals of them", ["dist_archive", "dist_journal"]),
     ("Clauses, what follows, and what is new", ["dist_lanes", "dist_clause", "dist_derive"]),
     ("Files whose lines answer one question", ["dist_findings", "dist_inquiry"]),
-    ("Explanations", ["dist_explain"]),
+    ("Explanations", ["dist_explain", "dist_explain_search"]),
     ("Repairs", ["dist_repair"]),
     ("Certificates", ["dist_cert"]),
     ("Files that are judged line by line", ["dist_judge"]),

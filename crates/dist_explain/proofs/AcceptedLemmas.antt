@@ -18,7 +18,7 @@ use Rattle.dist_explain.specs.Answered.{Answers, AreDecided, AreLast, IsOfRelati
 use Rattle.dist_explain.specs.Answered.{ShowsAll, ShowsNeeded}
 use Rattle.dist_explain.specs.Explanation.{Explain, FailsNumber, IsNeeded}
 use Rattle.dist_explain.specs.Selectors.{selected, selected_clauses}
-use Rattle.dist_explain.specs.Verdicts.{IsBroken, IsDecided, IsTrueOf}
+use Rattle.dist_explain.specs.Verdicts.{HasNoMark, IsBroken, IsTrueOf}
 use Rattle.dist_explain.specs.declared.asked.Asked.{Asked}
 use Rattle.dist_explain.specs.declared.explained.Explained.{Explained}
 use Rattle.dist_explain.specs.declared.explained.Explained.TheVariants.{Installable, Undecided, Broken}
@@ -182,7 +182,7 @@ module _ (r : PackageList) (relations : List Demand) (clauses : List (List Liter
           (All-weaker (λ l. (1 ≤ l.variable) × (l.variable ≤ length r.packages)) (λ l. IsUpto (length r.packages + length relations) l.variable)
           (λ l h. (h.0, omega (arith, h.1))) at.element range)
 
-  pub answer-decided : 3 ^ (length r.packages + length relations) < limit → (explained : Explained) → Answers asked found explained → IsDecided explained
+  pub answer-decided : 3 ^ (length r.packages + length relations) < limit → (explained : Explained) → Answers asked found explained → HasNoMark explained
   answer-decided beyond Installable answers = tt
   answer-decided beyond Undecided answers =
       all-open answers.2.1 (any-there (LeavesAllOpen asked) found answers.2) answers.2.4

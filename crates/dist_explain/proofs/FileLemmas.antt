@@ -26,7 +26,7 @@ use Rattle.dist_now.specs.Relations.{AreRelations}
 use Rattle.dist_check_state.specs.ModelLaws.{WhatFollows, sound-rule}
 use Rattle.dist_check_state.specs.ToldLaws.{most-told, stable}
 use Rattle.dist_explain.specs.Answered.{Answers, AreAnswered}
-use Rattle.dist_explain.specs.ExplanationFiles.{AreNumbersFor, AreWithin, IsSelectedOf, asked_by, explanation_files}
+use Rattle.dist_explain.specs.ExplanationFiles.{AreNumbersFor, AreSelectedInputs, asked_by, explanation_files}
 use Rattle.dist_explain.specs.ExplanationFiles.{number_at}
 use Rattle.dist_explain.specs.NotesPrivate.{AreNotesOf, NotesView}
 use Rattle.dist_explain.specs.Selectors.{IsSelectedSet, selected, selected_clauses}
@@ -38,7 +38,7 @@ use Rattle.dist_explain.proofs.AcceptedLemmas.{answer-decided, answer-true}
 use Rattle.dist_explain.proofs.MeaningLemmas.{IsAsked, Known}
 use Rattle.dist_explain.proofs.SelectedLemmas.{length-selected}
 use Rattle.dist_explain.proofs.WholeLemmas.{whole-decided, whole-fits, whole-sound}
-use Rattle.dist_findings.specs.AnswerFiles.{Inputs, files_of, limit_of}
+use Rattle.dist_findings.specs.AnswerFiles.{files_of, limit_of}
 use Rattle.dist_findings.specs.Answers.{IsAnswered}
 use Rattle.dist_findings.specs.FilesClearLaws.{clear_files}
 use Rattle.dist_findings.specs.Findings.{findings}
@@ -164,21 +164,15 @@ of-text-more P Q more (Some text) holds = more text holds
 
 -- ---- what a file is judged by
 
-module _ (r : PackageList) (limits : Limits) (numbers : List ℕ) (plain set : ClauseList) (packages variables : ℕ)
-    (inputs : AreInputsOf r Strong false limits (Today false plain.clauses) plain) (made : IsSelectedSet limits plain set)
-    (packages_are : packages ≡ length r.packages) (variables_are : variables ≡ set.variables) where
-  basis : Inputs
-  basis = record { variables = set.variables; clauses = set.clauses }
-
-  of-basis : IsSelectedOf r (record { variables = set.variables; clauses = set.clauses })
-  of-basis = record {
+pub selected-inputs : (r : PackageList) (limits : Limits) (plain set : ClauseList) → AreInputsOf r Strong false limits (Today false plain.clauses) plain
+    → IsSelectedSet limits plain set → AreSelectedInputs r limits set
+selected-inputs r limits plain set inputs made = record {
+  is_basis = record {
     clauses = plain.clauses;
     are_clauses = inputs.is_basis.1;
     selected_ones = made.selected_ones ∙ ap (λ (n : ℕ). selected n plain.clauses) inputs.variables;
     variables = made.variables ∙ ap (λ (n : ℕ). n + length plain.clauses) inputs.variables;
-  }
-
-  within : AreWithin limits (record { variables = set.variables; clauses = set.clauses })
+  };
   within = record {
     variables = made.variables_kept;
     clauses =
@@ -187,8 +181,11 @@ module _ (r : PackageList) (limits : Limits) (numbers : List ℕ) (plain set : C
         let kept = inputs.kept.clauses in
         omega (arith, count, kept);
     literals = made.literals_kept;
-  }
+  };
+}
 
+module _ (r : PackageList) (limits : Limits) (numbers : List ℕ) (set : ClauseList) (packages variables : ℕ) (inputs : AreSelectedInputs r limits set)
+    (packages_are : packages ≡ length r.packages) (variables_are : variables ≡ set.variables) where
   judged-by : AreNumbersFor packages variables numbers ↔ AreNumbersFor (length r.packages) set.variables numbers
   judged-by = (
     (λ fits. subst (λ (n : ℕ). AreNumbersFor n set.variables numbers) packages_are (subst (λ (v : ℕ). AreNumbersFor packages v numbers) variables_are fits)),
@@ -199,8 +196,8 @@ module _ (r : PackageList) (limits : Limits) (numbers : List ℕ) (plain set : C
   pub right-inputs : AreNumbersFor packages variables numbers → AreRightInputs (explanation_files r) numbers limits set
   right-inputs fits = record {
     basis = record { variables = set.variables; clauses = set.clauses };
-    is_basis = of-basis;
-    within = within;
+    is_basis = inputs.is_basis;
+    within = inputs.within;
     fits = judged-by.0 fits;
     variables = refl;
     clauses = refl;
@@ -209,7 +206,7 @@ module _ (r : PackageList) (limits : Limits) (numbers : List ℕ) (plain set : C
   pub wrong-inputs : ¬ AreNumbersFor packages variables numbers → AreWrongNumbers (explanation_files r) numbers limits
   wrong-inputs none = record {
     basis = record { variables = set.variables; clauses = set.clauses };
-    is_basis = of-basis;
-    within = within;
+    is_basis = inputs.is_basis;
+    within = inputs.within;
     wrong = λ fits. none (judged-by.1 fits);
   }

@@ -9,4 +9,5 @@ pub mod ConeLemmas
 pub mod AcceptedLemmas
 pub mod FileLemmas
 pub mod RelationLists
+pub mod InputLemmas
 pub mod OneExplanation

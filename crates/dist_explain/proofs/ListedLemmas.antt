@@ -3,7 +3,7 @@ use Rattle.std.proofs.Common.{◌≡◌, ◌≢◌, ◌↔◌, inl, inr, ℕ, �
 use Rattle.std.proofs.Common.{length, get_or, take}
 use Rattle.std.proofs.Common.{Ok, Err, Option, Some, None, refl, sym, ap, subst, ◌∙◌, arith, nat_cmp, IsTrue}
 use Rattle.std.specs.List.{All, Contains, insert}
-use Rattle.std.specs.List.Sorted.{IsBinarySearchResult, IsStrictlyIncreasing}
+use Rattle.std.specs.List.Sorted.{IsBinarySearchResult}
 use Rattle.std.specs.Prelude.{MatchOption, is_some}
 use Rattle.std.proofs.lemmas.Bool.{cases_order, true≢false, false≢true}
 use Rattle.std.proofs.lemmas.List.{get_or-take, get_or_default, length-take-le, take_all, take_more}
@@ -11,7 +11,6 @@ use Rattle.std.proofs.lemmas.List.Edits.{length-insert, get_or-insert_below, get
 use Rattle.std.proofs.lemmas.List.Elements.{All-contains, All-push, Contains-append_left, Contains-get_or}
 use Rattle.std.proofs.lemmas.List.Elements.{Contains-push}
 use Rattle.std.proofs.lemmas.List.Sorted.{searched, Contains-permutation, IsPermutation-insert, IsPermutation-sym}
-use Rattle.dist_base.specs.RowLaws.{same-numbers}
 use Rattle.dist_cert.specs.ListLaws.{any-from, contains-cases, contains-later, from-any}
 use Rattle.dist_cert.specs.Rising.{AreRising, is_among}
 use Rattle.dist_explain.specs.Answered.{IsOnlyMissing}
@@ -26,14 +25,6 @@ among-contains b list number is = ((λ e. from-any number list (sym is ∙ e)), 
 pub beyond : (list : List ℕ) (number bound : ℕ) → All (λ n. n < bound) list → bound ≤ number → ¬ Contains list number
 beyond list number bound small past there =
     let less = All-contains (λ (n : ℕ). n < bound) list number small there in omega (arith, less, past)
-
--- ---- the same numbers
-
-pub increasing-from : (numbers : List ℕ) → AreRising numbers → IsStrictlyIncreasing numbers
-increasing-from numbers rising k within = rising k (k + 1) 0 (omega arith) within
-
-pub one-rising : (xs ys : List ℕ) → AreRising xs → AreRising ys → ((k : ℕ) → Contains xs k ↔ Contains ys k) → ys ≡ xs
-one-rising xs ys first second same = same-numbers xs ys (increasing-from xs first) (increasing-from ys second) (λ k. (same k).0) (λ k. (same k).1)
 
 -- ---- one number more
 

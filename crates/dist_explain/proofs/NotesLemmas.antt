@@ -4,7 +4,7 @@ use Rattle.std.proofs.Common.{◌++◌, filter}
 use Rattle.std.proofs.Common.{Option, Some, None, refl, sym, ap, subst, ◌∙◌, arith, append_assoc, cond, get_or}
 use Rattle.std.proofs.Common.{zero-add, IsTrue, ◌||◌, Result, Ok, Err}
 use Rattle.std.specs.Prelude.{OnOk}
-use Rattle.std.specs.List.{Any, Contains, list_all}
+use Rattle.std.specs.List.{All, Any, Contains, list_all}
 use Rattle.std.proofs.lemmas.Bool.{and_from, and_parts, cases_Bool, cases_order, or_cases, or_left, or_right}
 use Rattle.std.proofs.lemmas.Bool.{true≢false, false≢true}
 use Rattle.std.proofs.lemmas.List.Elements.{All-contains, All-contains_itself, All-filter, Contains-append_left}
@@ -16,38 +16,23 @@ use Rattle.dist_cert.specs.ClaimRules.{yes}
 use Rattle.dist_cert.specs.Form.{Word}
 use Rattle.dist_cert.specs.ListLaws.{any-from, contains-cases, contains-later, from-any}
 use Rattle.dist_cert.specs.Rising.{AreRising, is_among}
-use Rattle.dist_explain.specs.Answered.{Answers, AreAllBut, AreAnswered, AreDecided, AreLast, HasAll, IsOfRelation}
+use Rattle.dist_explain.specs.Answered.{Answers, AreAllBut, AreAnswered, AreDecided, AreLast, HasAll}
 use Rattle.dist_explain.specs.Answered.{IsOnlyMissing, LeavesAllOpen, LeavesOpen}
 use Rattle.dist_explain.specs.Answered.{NoneRefuted, RefutesSome, Selects, ShowsAll, ShowsNeeded}
 use Rattle.dist_explain.specs.AskedPrivate.{SelectsNone}
 use Rattle.dist_explain.specs.ListedPrivate.{HasAllBehind, HasOneMore, IsNoneMissing}
 use Rattle.dist_explain.specs.NotesPrivate.{AreAllMarked, AreFirstNotes, AreInOrder, AreLastNotes, AreMarks, AreNotes}
-use Rattle.dist_explain.specs.NotesPrivate.{AreNotesOf, IsMarked, LastView}
+use Rattle.dist_explain.specs.NotesPrivate.{AreNotesOf, IsMarked, IsMarkedIn, LastView}
 use Rattle.dist_explain.specs.NotesPrivate.{MarksOpen, MarksShown, NotesView, are_all_marked, fresh, undecided_of}
 use Rattle.dist_explain.specs.declared.asked.Asked.{Asked}
 use Rattle.dist_explain.specs.declared.explained.Explained.{Explained}
 use Rattle.dist_explain.specs.declared.explained.Explained.TheVariants.{Installable, Undecided, Broken}
 use Rattle.dist_check_state.specs.ToldLaws.{IsTold, all-told, bool-told, number-told, stable}
-use Rattle.dist_explain.proofs.ListedLemmas.{one-rising}
+use Rattle.dist_explain.specs.AnsweredLaws.{any-push, kept, last-more, last-new, none-any, none-more, selects-one}
 use Rattle.dist_findings.specs.declared.finding.Finding.{Finding}
 use Rattle.dist_findings.specs.declared.finding.Finding.TheVariants as finding
 
 -- ---- one element more
-
-any-push : {X : Type 0} (P : X → Type 0) (xs : List X) (x : X) → Any P (xs ++ x ∷ []) ↔ (Any P xs ⊎ P x)
-any-push P xs x = (
-  (λ any. elim (Contains-push_cases xs x any.1 (any-there P (xs ++ x ∷ []) any)) [
-    | inl there ↦ inl (any-contained P xs any.1 there any.4)
-    | inr same ↦ inr (subst P (sym same) any.4)
-  ]),
-  (λ some. elim some [
-    | inl any ↦ any-contained P (xs ++ x ∷ []) any.1 (Contains-append_left xs (x ∷ []) any.1 (any-there P xs any)) any.4
-    | inr holds ↦ any-contained P (xs ++ x ∷ []) x (Contains-push xs x) holds
-  ]),
-)
-
-none-any : {X : Type 0} (P : X → Type 0) → ¬ Any P []
-none-any P any = omega (arith, any.2)
 
 none-there : (one : ℕ) → ¬ Contains [] one
 none-there one there = omega (arith, there.1)
@@ -56,36 +41,7 @@ none-there one there = omega (arith, there.1)
 more-any : {X : Type 0} (Z : Type 0) (P : X → Type 0) (xs : List X) (x : X) → Z ↔ (Any P xs ⊎ P x) → Z ↔ Any P (xs ++ x ∷ [])
 more-any Z P xs x iff = ((λ z. (any-push P xs x).1 (iff.0 z)), λ any. iff.1 ((any-push P xs x).0 any))
 
--- ---- the relations of a question are one list
-
-same-relations : (asked : Asked) (question : List Word) (numbers others : List ℕ) → asked.number ≤ asked.packages → Selects asked question numbers
-    → Selects asked question others → (one : ℕ) → Contains numbers one → Contains others one
-same-relations asked question numbers others upto first second one there =
-    let Is : ℕ → Type 0 = λ n. yes (asked.packages + one) ≡ yes (asked.packages + n) in
-    let First : ℕ → Type 0 = λ n. yes (asked.packages + one) ≡ yes (asked.packages + n) in
-    let range = All-contains (IsOfRelation asked) numbers one first.in_range there in
-    let word = (first.exact (yes (asked.packages + one))).1 (inr (any-contained First numbers one there refl)) in
-    elim ((second.exact (yes (asked.packages + one))).0 word) [
-      | inl same ↦ let e = ap (λ (w : Word). w.0) same in absurd (omega (arith, e, range.0, upto))
-      | inr any ↦
-          let e = ap (λ (w : Word). w.0) any.4 in
-          let same : any.1 ≡ one = omega (arith, e) in
-          subst (Contains others) same (any-there Is others any)
-    ]
-
-pub selects-one : (asked : Asked) (question : List Word) (numbers others : List ℕ) → asked.number ≤ asked.packages → Selects asked question numbers
-    → Selects asked question others → others ≡ numbers
-selects-one asked question numbers others upto first second =
-    one-rising numbers others first.rising second.rising
-    (λ k. (same-relations asked question numbers others upto first second k, same-relations asked question others numbers upto second first k))
-
 -- ---- one finding more
-
-none-more : (asked : Asked) (found : List Finding) (f : Finding) → NoneRefuted asked found → ¬ RefutesSome asked f → NoneRefuted asked (found ++ f ∷ [])
-none-more asked found f none not any = elim ((any-push (RefutesSome asked) found f).0 any) [
-  | inl before ↦ none before
-  | inr here ↦ not here
-]
 
 -- the same, where the first of them is told otherwise
 through : (Z A B C : Type 0) → Z ↔ (A ⊎ C) → A ↔ B → Z ↔ (B ⊎ C)
@@ -121,13 +77,7 @@ last-next asked found f last new not same shows leaves notes =
     let later : List Finding = notes.later in
     let is = notes.are_last in record {
       later = later ++ f ∷ [];
-      are_last = record {
-        earlier = is.earlier;
-        question = is.question;
-        stands = ap (λ (fs : List Finding). fs ++ f ∷ []) is.stands ∙ append_assoc is.earlier (finding.Refuted is.question ∷ later) (f ∷ []);
-        selects = subst (Selects asked is.question) (sym same) is.selects;
-        none_later = none-more asked later f is.none_later not;
-      };
+      are_last = subst (λ ns. AreLast asked (found ++ f ∷ []) ns (later ++ f ∷ [])) (sym same) (last-more asked found last.numbers later f is not);
       marks = record {
         shown = λ one.
             let Shows : List ℕ → Finding → Type 0 = λ ns. ShowsNeeded asked ns one in
@@ -149,13 +99,7 @@ pub refuted-next : (asked : Asked) (found : List Finding) (question : List Word)
     → AreLastNotes asked (found ++ finding.Refuted question ∷ []) (fresh numbers)
 refuted-next asked found question numbers selects = record {
   later = [];
-  are_last = record {
-    earlier = found;
-    question = question;
-    stands = refl;
-    selects = selects;
-    none_later = none-any (RefutesSome asked);
-  };
+  are_last = last-new asked found question numbers selects;
   marks = record {
     shown = λ one. ((λ there. absurd (none-there one there)), λ any. absurd (none-any (ShowsNeeded asked numbers one) any));
     left_open = λ one. ((λ there. absurd (none-there one there)), λ any. absurd (none-any (LeavesOpen asked numbers one) any));
@@ -435,32 +379,6 @@ some-refuted asked found numbers later last none =
     (Contains-append_right last.earlier (finding.Refuted last.question ∷ later) (finding.Refuted last.question) (0, omega arith, refl))
     (numbers, last.selects)))
 
--- what a filter keeps
-kept-there : (p : ℕ → Bool) (xs : List ℕ) (x : ℕ) → Contains xs x → p x ≡ true → Contains (filter p xs) x
-kept-there p [] x there holds = absurd (omega (arith, there.1))
-kept-there p (y ∷ xs) x there holds = elim (contains-cases y xs x there) [
-  | inl same ↦ by (p y) (ap p same ∙ holds) (inl same)
-  | inr later ↦ by-any (p y) (kept-there p xs x later holds)
-]
-  where
-    by : (b : Bool) → b ≡ true → (y ≡ x) ⊎ Contains (filter p xs) x → Contains (cond b (y ∷ filter p xs) (filter p xs)) x
-    by true is (inl same) = (0, omega arith, same)
-    by true is (inr later) = contains-later y (filter p xs) x later
-    by false is some = absurd (false≢true is)
-
-    by-any : (b : Bool) → Contains (filter p xs) x → Contains (cond b (y ∷ filter p xs) (filter p xs)) x
-    by-any true later = contains-later y (filter p xs) x later
-    by-any false later = later
-
-kept : (p : ℕ → Bool) (xs : List ℕ) (x : ℕ) → Contains (filter p xs) x ↔ (Contains xs x × (p x ≡ true))
-kept p xs x = (
-  (λ there. (
-    All-contains (Contains xs) (filter p xs) x (All-filter p (Contains xs) xs (All-contains_itself xs)) there,
-    All-contains (λ y. p y ≡ true) (filter p xs) x (filter_passes p xs) there,
-  )),
-  (λ both. kept-there p xs x both.0 both.1),
-)
-
 -- what is left open and not shown
 undecided-are : (last : LastView) (one : ℕ) → Contains (undecided_of last) one ↔ (Contains last.left_open one × (¬ Contains last.shown one))
 undecided-are last one =
@@ -500,6 +418,62 @@ marks-decide asked later last marks first second all = record {
   needed_rise = first;
   undecided_rise = AllPairs-filter (λ a b. a < b) (λ n. not (is_among last.shown n)) last.left_open second;
 }
+
+-- numbers that have their marks, with rising lists of them
+sifted-mark : (asked : Asked) (numbers : List ℕ) (later : List Finding) (list : List ℕ) (Mark : ℕ → Type 0) → ((one : ℕ) → Contains list one ↔ Mark one)
+    → ((one : ℕ) → Mark one → Contains numbers one) → (one : ℕ) → Contains (filter (is_among list) numbers) one ↔ Mark one
+sifted-mark asked numbers later list Mark marks within one =
+    let both = kept (is_among list) numbers one in (
+      (λ there. (marks one).0 (from-any one list (both.0 there).1)),
+      (λ mark. both.1 (within one mark, any-from one list ((marks one).1 mark))),
+    )
+
+-- what is shown to be needed, and what is left open, are some of the relations
+shown-within : (asked : Asked) (numbers : List ℕ) (one : ℕ) (f : Finding) → ShowsNeeded asked numbers one f → Contains numbers one
+shown-within asked numbers one (finding.Installed members) shows = shows.1.there
+shown-within asked numbers one (finding.Refuted question) shows = absurd shows
+shown-within asked numbers one (finding.LeftUndecided question) shows = absurd shows
+
+open-within : (asked : Asked) (numbers : List ℕ) (one : ℕ) (f : Finding) → LeavesOpen asked numbers one f → Contains numbers one
+open-within asked numbers one (finding.LeftUndecided question) leaves = leaves.2.there
+open-within asked numbers one (finding.Installed members) leaves = absurd leaves
+open-within asked numbers one (finding.Refuted question) leaves = absurd leaves
+
+abbrev sifted : LastView → LastView
+sifted last = record {
+  numbers = last.numbers;
+  shown = filter (is_among last.shown) last.numbers;
+  left_open = filter (is_among last.left_open) last.numbers;
+}
+
+sifted-marks : (asked : Asked) (later : List Finding) (last : LastView) → AreMarks asked later last → AreMarks asked later (sifted last)
+sifted-marks asked later last marks = record {
+  shown = sifted-mark asked last.numbers later last.shown (λ one. Any (ShowsNeeded asked last.numbers one) later) marks.shown
+      (λ one any. shown-within asked last.numbers one any.1 any.4);
+  left_open = sifted-mark asked last.numbers later last.left_open (λ one. Any (LeavesOpen asked last.numbers one) later) marks.left_open
+      (λ one any. open-within asked last.numbers one any.1 any.4);
+}
+
+-- relations of which each has its mark are an answer
+pub marked-relations : (asked : Asked) (found : List Finding) (n : NotesView) (numbers : List ℕ) (later : List Finding) → asked.number ≤ asked.packages
+    → AreNotesOf asked found n → AreLast asked found numbers later → All (IsMarkedIn asked numbers later) numbers → AreAnswered asked found
+marked-relations asked found n numbers later upto notes is marked = by n.last notes.1
+  where
+    by : (o : Option LastView) → AreNotes asked found n.installed n.left_open o → AreAnswered asked found
+    by None first = absurd (some-refuted asked found numbers later is first.none)
+    by (Some last) lasts =
+        let same = last-one asked found numbers later last.numbers lasts.later upto is lasts.are_last in
+        let marks : AreMarks asked later last = subst (λ fs. AreMarks asked fs last) same.1 lasts.marks in
+        let sifts = sifted-marks asked later last marks in
+        let rising : AreRising last.numbers = lasts.are_last.selects.rising in
+        let each : All (IsMarkedIn asked last.numbers later) last.numbers = subst (λ ns. All (IsMarkedIn asked ns later) ns) (sym same.0) marked in
+        let decided = marks-decide asked later (sifted last) sifts (AllPairs-filter (λ a b. a < b) (is_among last.shown) last.numbers rising)
+        (AllPairs-filter (λ a b. a < b) (is_among last.left_open) last.numbers rising) (λ k d short. elim (each k d short) [
+          | inl shown ↦ inl ((sifts.shown (get_or last.numbers k d)).1 shown)
+          | inr still ↦ inr ((sifts.left_open (get_or last.numbers k d)).1 still)
+        ]) in
+        let are_last : AreLast asked found last.numbers later = subst (λ fs. AreLast asked found last.numbers fs) same.1 lasts.are_last in
+        (Broken (sifted last).shown (undecided_of (sifted last)), (last.numbers, later, are_last, decided))
 
 -- relations that are decided have their marks
 decided-marks : (asked : Asked) (later : List Finding) (last : LastView) (needed undecided : List ℕ) → AreMarks asked later last

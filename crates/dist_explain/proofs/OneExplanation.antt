@@ -31,7 +31,8 @@ use Rattle.dist_explain.specs.declared.verdict.ExplainHeader.{ExplainHeader}
 use Rattle.dist_explain.specs.declared.verdict.ExplainVerdict.{ExplainVerdict}
 use Rattle.dist_explain.specs.declared.verdict.ExplainVerdict.TheVariants.{Accepted, Refused}
 use Rattle.dist_explain.proofs.FileLemmas.{clear-explanations, fitting}
-use Rattle.dist_explain.proofs.ListedLemmas.{one-rising}
+use Rattle.dist_explain.specs.AnsweredLaws.{one-rising}
+use Rattle.dist_explain.proofs.InputLemmas.{Present, none-present}
 use Rattle.dist_explain.proofs.NotesLemmas.{last-one, some-refuted}
 use Rattle.dist_explain.proofs.SelectedLemmas.{count-selected, length-selected}
 use Rattle.dist_explain.proofs.WholeLemmas.{whole-fits}
@@ -79,6 +80,9 @@ pub record Numbers : Type 0 where
       → subject.PassesFirst r kind essential limits what → subject.PassesFirst r kind essential limits other → other ≡ what
 
 module _ (laws : Numbers) (r : PackageList) (ordered : IsInOrder r.packages) (limits : Limits) where
+  present : Present
+  present = record { same = laws.present; kept = laws.kept }
+
   one-basis : (basis other : Inputs) → IsSelectedOf r basis → IsSelectedOf r other → other ≡ basis
   one-basis basis other first second =
       let same = laws.present r false first.clauses second.clauses first.are_clauses second.are_clauses in
@@ -86,19 +90,13 @@ module _ (laws : Numbers) (r : PackageList) (ordered : IsInOrder r.packages) (li
       (second.variables ∙ ap (λ (cs : List (List Literal)). length r.packages + length cs) same ∙ sym first.variables)
       (second.selected_ones ∙ ap (selected_clauses r) same ∙ sym first.selected_ones)
 
-  -- clauses that keep the numbers of the present
-  none-present : (clauses : List (List Literal)) (what : What) → ArePresentClauses r false clauses → length clauses ≤ limits.clauses
-      → literal_count clauses ≤ limits.literals → ¬ subject.PassesPresent r false limits what
-  none-present clauses what are count literals =
-      laws.kept r Strong false limits (Today false clauses) what (refl, are) (record { variables = tt; clauses = count; literals = literals })
-
   none-passed : (basis : Inputs) (what : What) → IsSelectedOf r basis → AreWithin limits basis → ¬ PassesFirst r limits what
   none-passed basis what is within (inl passes) =
       let size = ap (λ (cs : List (List Literal)). length cs) is.selected_ones ∙ length-selected (length r.packages) is.clauses in
       let all = ap literal_count is.selected_ones ∙ count-selected (length r.packages) is.clauses in
       let clauses = within.clauses in
       let literals = within.literals in
-      none-present is.clauses what is.are_clauses (omega (arith, size, clauses)) (omega (arith, all, literals)) passes
+      none-present present r limits is.clauses what is.are_clauses (omega (arith, size, clauses)) (omega (arith, all, literals)) passes
   none-passed basis what is within (inr x) = by what x.passes
     where
       same : x.plain.clauses ≡ is.clauses
@@ -124,8 +122,8 @@ module _ (laws : Numbers) (r : PackageList) (ordered : IsInOrder r.packages) (li
 
   one-passed : (what other : What) → PassesFirst r limits what → PassesFirst r limits other → other ≡ what
   one-passed what other (inl first) (inl second) = laws.one r Strong false limits what other ordered first second
-  one-passed what other (inl first) (inr y) = absurd (none-present y.plain.clauses what y.are_clauses y.clauses_kept y.literals_kept first)
-  one-passed what other (inr x) (inl second) = absurd (none-present x.plain.clauses other x.are_clauses x.clauses_kept x.literals_kept second)
+  one-passed what other (inl first) (inr y) = absurd (none-present present r limits y.plain.clauses what y.are_clauses y.clauses_kept y.literals_kept first)
+  one-passed what other (inr x) (inl second) = absurd (none-present present r limits x.plain.clauses other x.are_clauses x.clauses_kept x.literals_kept second)
   one-passed what other (inr x) (inr y) = by what other x.passes y.passes
     where
       size : length y.plain.clauses ≡ length x.plain.clauses

@@ -45,6 +45,11 @@ pub record AreWithin (limits : Limits) (basis : Inputs) : Type 0 where
   pub clauses : length basis.clauses ≤ limits.clauses
   pub literals : literal_count basis.clauses ≤ limits.literals
 
+-- The set holds what files are judged by, and keeps the limits.
+pub record AreSelectedInputs (r : PackageList) (limits : Limits) (set : ClauseList) : Type 0 where
+  pub is_basis : IsSelectedOf r (record { variables = set.variables; clauses = set.clauses })
+  pub within : AreWithin limits (record { variables = set.variables; clauses = set.clauses })
+
 -- The clauses of the present keep their limits, and with their selectors this number is passed first.
 pub record PassesWithSelectors (r : PackageList) (limits : Limits) (what : What) : Type 0 where
   pub plain : ClauseList

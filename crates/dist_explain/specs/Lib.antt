@@ -3,6 +3,7 @@ pub mod Selectors
 pub mod SelectedPrivate
 pub mod Examples
 pub mod Answered
+pub mod AnsweredLaws
 pub mod ListedPrivate
 pub mod AskedPrivate
 pub mod NotesPrivate

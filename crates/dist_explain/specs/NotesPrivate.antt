@@ -1,5 +1,5 @@
 -- Serves private contracts: what is noted of the findings of an explanation's file.
-use Rattle.std.specs.Prelude.{◌≡◌, ◌⊎◌, ◌↔◌, ◌||◌, ℕ, Bool, true, false, List, [], Option, Some, None, All, Any}
+use Rattle.std.specs.Prelude.{◌≡◌, ◌⊎◌, ◌↔◌, ◌||◌, ℕ, Bool, true, List, [], Option, Some, None, All, Any}
 use Rattle.std.specs.Prelude.{Contains, filter, not}
 use Rattle.std.specs.List.{list_all}
 use Rattle.dist_cert.specs.Rising.{AreRising, is_among}
@@ -29,10 +29,6 @@ pub record NotesView : Type 0 where
 abbrev pub fresh : List ℕ → LastView
 fresh numbers = record { numbers = numbers; shown = []; left_open = [] }
 
--- before any finding
-abbrev pub none_noted : Asked → NotesView
-none_noted asked = record { asked = asked; last = None; installed = false; left_open = false }
-
 -- ---- one finding more
 
 -- a relation more is shown to be needed, where it is the only one that is missing
@@ -50,6 +46,10 @@ pub record MarksOpen (others : List ℕ) (old new : LastView) : Type 0 where
       ↔ (Contains old.left_open one ⊎ AreAllBut old.numbers one others)
 
 -- ---- what the notes say
+
+-- later findings show that one of some relations is needed, or leave it open
+abbrev pub IsMarkedIn : Asked → (numbers : List ℕ) → (later : List Finding) → (one : ℕ) → Type 0
+IsMarkedIn asked numbers later one = Any (ShowsNeeded asked numbers one) later ⊎ Any (LeavesOpen asked numbers one) later
 
 -- What is known of the relations is what these later findings say.
 pub record AreMarks (asked : Asked) (later : List Finding) (last : LastView) : Type 0 where

@@ -74,10 +74,10 @@ IsTrueOf r relations p Undecided = Unit {0}
 IsTrueOf r relations p (Broken needed undecided) = IsBroken r p needed undecided relations
 
 -- nothing is left undecided
-abbrev pub IsDecided : Explained → Type 0
-IsDecided Installable = Unit {0}
-IsDecided Undecided = ⊥
-IsDecided (Broken needed undecided) = undecided ≡ []
+abbrev pub HasNoMark : Explained → Type 0
+HasNoMark Installable = Unit {0}
+HasNoMark Undecided = ⊥
+HasNoMark (Broken needed undecided) = undecided ≡ []
 
 -- The package is one of the repository, what is answered of it is true, and with a limit that no question reaches
 -- nothing is left undecided.
@@ -87,7 +87,7 @@ pub record AcceptedMeans (r : PackageList) (h : ExplainHeader) (explained : Expl
   pub means : IsPackageAnd r.packages h.«package» (λ p. (relations : List Demand) → AreRelations r relations
       → IsTrueOf r relations p explained)
   pub decided : (relations : List Demand) → AreRelations r relations
-      → 3 ^ (length r.packages + length relations) < h.limit → IsDecided explained
+      → 3 ^ (length r.packages + length relations) < h.limit → HasNoMark explained
 
 -- what a verdict says whatever the desk tells
 abbrev pub VerdictMeans : PackageList → ExplainVerdict → Type 0

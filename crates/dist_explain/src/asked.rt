@@ -9,13 +9,13 @@ use std::alloc::{AllocError, Global};
 
 /// What a file speaks of.
 #[derive(Clone, Copy, Debug)]
-pub(crate) struct Asked {
+pub struct Asked {
     /// How many packages there are, whose variables come first.
-    pub(crate) packages: u32,
+    pub packages: u32,
     /// How many relations there are, whose selectors come next.
-    pub(crate) relations: u32,
-    /// The package, from 1.
-    pub(crate) number: u32,
+    pub relations: u32,
+    /// The package by its variable, so from 1, as it stands in the file. Elsewhere packages are numbered from 0.
+    pub number: u32,
 }
 
 impl Asked {

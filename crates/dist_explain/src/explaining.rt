@@ -6,13 +6,12 @@ ghost use Rattle.dist_explain.specs.ExplanationFiles.{AreNumbersFor, asked_by, e
 ghost use Rattle.dist_explain.specs.NotesPrivate.{AreNotesOf};
 
 use crate::asked::Asked;
+use crate::inputs::selected_inputs;
 use crate::notes::Notes;
-use crate::selected::with_selectors;
 use dist_clause::ClauseSet;
 use dist_findings::{Answering, Finding};
 use dist_outside::{Limits, WorkError};
 use dist_repo::Repository;
-use dist_subject::present_inputs;
 use std::alloc::{AllocError, Global};
 
 /// The number at a place of a first line, or 0.
@@ -49,8 +48,9 @@ fn are_numbers_for(numbers: &[u32], packages: u32, variables: u32) -> bool
 
 /// The files of explanations over a repository.
 #[derive(Drop)]
-pub(crate) struct Explaining<'a> {
-    pub(crate) repo: &'a Repository,
+pub struct Explaining<'a> {
+    /// Its packages are explained.
+    pub repo: &'a Repository,
 }
 
 impl<'a> Answering for Explaining<'a> {
@@ -76,8 +76,7 @@ impl<'a> Answering for Explaining<'a> {
         numbers: &[u32],
         limits: &Limits,
     ) -> Result<Option<ClauseSet>, WorkError> {
-        let plain = present_inputs(alloc, self.repo, false, limits)?;
-        let set = with_selectors(alloc, &plain, limits)?;
+        let set = selected_inputs(alloc, self.repo, limits)?;
         if are_numbers_for(numbers, self.repo.len(), set.variables()) {
             Ok(Some(set))
         } else {

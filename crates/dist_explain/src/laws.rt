@@ -1,5 +1,5 @@
 //! What clauses with selectors mean, and what an accepted file proves. The functions do nothing.
-ghost use Rattle.std.specs.Prelude.{◌≡◌, Bool, List, Result, false, ℕ};
+ghost use Rattle.std.specs.Prelude.{◌≡◌, ◌≤◌, All, Bool, List, Result, false, ℕ};
 ghost use Rattle.dist_outside.specs.declared.limits.Limits.{Limits};
 ghost use Rattle.dist_outside.specs.declared.trouble.WorkError.{WorkError};
 ghost use Rattle.dist_clause.specs.Formula.{Literal};
@@ -7,11 +7,15 @@ ghost use Rattle.dist_repo.specs.Order.{IsInOrder};
 ghost use Rattle.dist_repo.specs.PackageList.{PackageList};
 ghost use Rattle.dist_now.specs.PresentClauses.{ArePresentClauses, Demand};
 ghost use Rattle.dist_now.specs.Relations.{AreRelations};
+ghost use Rattle.dist_explain.specs.Answered.{AreAnswered, AreLast};
+ghost use Rattle.dist_explain.specs.NotesPrivate.{AreNotesOf, IsMarkedIn, NotesView};
 ghost use Rattle.dist_explain.specs.Selectors.{AreExplainedByNoModel, AreModelsBySelectors};
 ghost use Rattle.dist_explain.specs.Verdicts.{AcceptedMeans, ExplanationAnswers, IsExplanation, IsOfText};
+ghost use Rattle.dist_explain.specs.declared.asked.Asked.{Asked};
 ghost use Rattle.dist_explain.specs.declared.explained.Explained.{Explained};
 ghost use Rattle.dist_explain.specs.declared.verdict.ExplainHeader.{ExplainHeader};
 ghost use Rattle.dist_explain.specs.declared.verdict.ExplainVerdict.{ExplainVerdict};
+ghost use Rattle.dist_findings.specs.declared.finding.Finding.{Finding};
 
 use dist_cert::forms_are_clear;
 use dist_derive::{lines_keep_models, new_lines_are_few};
@@ -43,6 +47,14 @@ pub fn accepted_explanations_hold()
     demands_tell_health();
     relations_have_clauses();
     selectors_explain();
+}
+
+/// Relations of which each has its mark are an answer.
+pub fn marked_relations_are_answered()
+    ensures { (asked : Asked) (found : List Finding) (notes : NotesView) (numbers : List ℕ) (later : List Finding)
+        → asked.number ≤ asked.packages → AreNotesOf asked found notes → AreLast asked found numbers later
+        → All (IsMarkedIn asked numbers later) numbers → AreAnswered asked found }
+{
 }
 
 /// A text has one answer, but for a fault of reading and want of memory.

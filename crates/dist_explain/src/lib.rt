@@ -10,6 +10,7 @@ mod asked;
 mod explained;
 mod explaining;
 mod file;
+mod inputs;
 mod laws;
 mod listed;
 mod notes;
@@ -17,9 +18,16 @@ mod relations;
 mod selected;
 mod verdict;
 
+pub use asked::Asked;
 pub use explained::Explained;
+pub use explaining::Explaining;
 pub use file::check_explained;
-pub use laws::{accepted_explanations_hold, explanations_have_one_answer, selectors_explain};
+pub use inputs::selected_inputs;
+pub use laws::{
+    accepted_explanations_hold, explanations_have_one_answer, marked_relations_are_answered, selectors_explain,
+};
+pub use listed::put_in_order;
+pub use notes::Notes;
 pub use relations::{Relation, relations_of};
 pub use selected::with_selectors;
 pub use verdict::{ExplainHeader, ExplainVerdict};

@@ -3,7 +3,7 @@ ghost use Rattle.std.specs.Prelude.{◌≡◌, ◌↔◌, ◌++◌, ◌∷◌, �
 ghost use Rattle.std.specs.List.{list_all};
 ghost use Rattle.dist_cert.specs.Rising.{AreRising, is_among};
 ghost use Rattle.dist_explain.specs.Answered.{Answers, AreAnswered};
-ghost use Rattle.dist_explain.specs.NotesPrivate.{AreInOrder, AreNotesOf, MarksOpen, MarksShown, are_all_marked, fresh, none_noted, undecided_of};
+ghost use Rattle.dist_explain.specs.NotesPrivate.{AreInOrder, AreNotesOf, MarksOpen, MarksShown, are_all_marked, fresh, undecided_of};
 ghost use Rattle.dist_explain.specs.declared.asked.Asked.{Asked};
 ghost use Rattle.dist_findings.specs.Findings.{IsFormed};
 ghost use Rattle.dist_findings.specs.declared.finding.Finding.{Finding};
@@ -107,9 +107,10 @@ impl Last {
     }
 }
 
-/// What is noted of the findings of a file.
+/// What is noted of the findings of a file: of the relations of the last refuted question, which are needed, and of which that is
+/// left undecided.
 #[derive(Drop)]
-pub(crate) struct Notes {
+pub struct Notes {
     alloc: Global,
     asked: Asked,
     last: Option<Last>,
@@ -132,9 +133,9 @@ impl Model for Notes {
 
 impl Notes {
     /// Nothing is found yet.
-    pub(crate) fn new(alloc: Global, asked: Asked) -> Notes
+    pub fn new(alloc: Global, asked: Asked) -> Notes
         requires { asked.number ≤ asked.packages }
-        ensures { result ≡ none_noted asked }
+        ensures { AreNotesOf asked [] result }
     {
         Notes {
             alloc,
@@ -221,7 +222,7 @@ impl Notes {
     }
 
     /// The answer, if the findings decide it.
-    pub(crate) fn answer(self) -> Explained
+    pub fn answer(self) -> Explained
         ensures { (asked : Asked) (found : List Finding) → AreNotesOf asked found self
             → (¬ ¬ AreAnswered asked found) → Answers asked found result }
     {

@@ -2,7 +2,7 @@ use Rattle.std.proofs.Common.{◌⊎◌, ◌↔◌, ℕ, subst}
 use Rattle.std.specs.Prelude.{Contains}
 use Rattle.dist_now.specs.Partners.{IsPartner}
 use Rattle.dist_repo.specs.PackageList.{PackageList}
-use Rattle.dist_explain.proofs.ListedLemmas.{increasing-from}
+use Rattle.dist_explain.specs.AnsweredLaws.{increasing-from}
 use Rattle.dist_explain.proofs.RelationLists.{gathered-apart}
 use Rattle.dist_explain.proofs.relations.gather_apart.Goals as goal
 

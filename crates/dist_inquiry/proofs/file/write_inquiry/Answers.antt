@@ -15,7 +15,7 @@ returns-in_err-done g c =
     let file = g.S.Inquiring.file c.args.search.now in
     let Keeps = g.S.Inquiring.keeps c.args.search.now in
     let asks = g.S.Inquiring.asks c.args.search.now in
-    let Told = g.S.Inquiring.told c.put_all-done.new.search in
+    let Told = g.S.Inquiring.told c.args.search.now c.put_all-done.new.search in
     let done : IsDone c.args.name.now old mid late new
     = record {
       more = c.file_holds.ensures.more;
@@ -37,7 +37,7 @@ returns g c =
     let file = g.S.Inquiring.file c.args.search.now in
     let Keeps = g.S.Inquiring.keeps c.args.search.now in
     let asks = g.S.Inquiring.asks c.args.search.now in
-    let Told = g.S.Inquiring.told c.put_all-done.new.search in
+    let Told = g.S.Inquiring.told c.args.search.now c.put_all-done.new.search in
     let done : IsDone c.args.name.now old mid late new
     = record {
       more = c.file_holds.ensures.more;

@@ -1,0 +1,3 @@
+pub mod ExplainOrder
+pub mod ExplainAnswers
+pub mod SearchPrivate

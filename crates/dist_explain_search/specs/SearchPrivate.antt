@@ -1,0 +1,108 @@
+-- Serves private contracts: where the search stands, and what a question more comes to.
+use Rattle.std.specs.Prelude.{◌≡◌, ◌==◌, ◌⊎◌, ℕ, ◌+◌, ◌≤◌, List, [], ◌∷◌, ◌++◌, All, Any, Contains, filter, length, map, not}
+use Rattle.dist_outside.specs.DeskView.{DeskView, FileGrew}
+use Rattle.dist_outside.specs.declared.trouble.WorkError.{WorkError}
+use Rattle.dist_cert.specs.ClaimRules.{yes}
+use Rattle.dist_cert.specs.FileLines.{lines_text}
+use Rattle.dist_cert.specs.Form.{Word}
+use Rattle.dist_cert.specs.Rising.{AreRising}
+use Rattle.dist_cert.specs.declared.records.CertRecord.{CertRecord}
+use Rattle.dist_cert.specs.declared.records.CertRecord.TheVariants.{Question, Refuted}
+use Rattle.dist_explain.specs.Answered.{AreAllBut, AreAnswered, AreLast, IsOfRelation, Selects}
+use Rattle.dist_explain.specs.ExplanationFiles.{asked_by}
+use Rattle.dist_explain.specs.NotesPrivate.{AreNotesOf, IsMarkedIn, NotesView}
+use Rattle.dist_explain.specs.declared.asked.Asked.{Asked}
+use Rattle.dist_findings.specs.Findings.{findings}
+use Rattle.dist_findings.specs.declared.finding.Finding.{Finding}
+use Rattle.dist_solver.specs.declared.answers.Answer.TheVariants as answers
+use Rattle.dist_sweep.specs.Asking.{AskerView}
+use Rattle.dist_inquiry.specs.AnswerText.{Noting}
+use Rattle.dist_inquiry.specs.Asking.{IsAt, Says}
+use Rattle.dist_inquiry.specs.Inquiry.{AreAsked, Setting, Stops}
+use Rattle.dist_explain_search.specs.ExplainOrder.{IsNextQuestion}
+
+-- ---- questions
+
+-- the question of the package and these relations
+abbrev pub question_of : Asked → (numbers : List ℕ) → List Word
+question_of asked numbers = yes asked.number ∷ map (λ number. yes (asked.packages + number)) numbers
+
+-- numbers of relations, which rise
+pub record AreNumbers (asked : Asked) (numbers : List ℕ) : Type 0 where
+  pub rising : AreRising numbers
+  pub in_range : All (IsOfRelation asked) numbers
+
+-- all of them but one
+abbrev pub others_of : List ℕ → ℕ → List ℕ
+others_of numbers one = filter (λ number. not (number == one)) numbers
+
+-- numbers of relations that are some of these
+pub record IsSmaller (asked : Asked) (numbers fewer : List ℕ) : Type 0 where
+  pub are : AreNumbers asked fewer
+  pub within : All (Contains numbers) fewer
+  pub few : length fewer ≤ length numbers
+
+-- So many variables are those of the packages and the relations, and the package is one of them.
+pub record FitsAsked (asked : Asked) (variables : ℕ) : Type 0 where
+  pub all : asked.packages + asked.relations ≡ variables
+  pub from_one : 1 ≤ asked.number
+  pub upto : asked.number ≤ asked.packages
+
+-- the notes of what is found
+abbrev pub explain_noting : Noting NotesView
+explain_noting = λ numbers found notes. AreNotesOf (asked_by numbers) found notes
+
+-- ---- where the search stands
+
+-- What is kept is what these lines hold, and what they find is noted.
+pub record IsSearching (g : Setting) (asked : Asked) (lines : List CertRecord) (a : AskerView) (notes : NotesView)
+    : Type 0 where
+  pub at : IsAt g lines a
+  pub noted : AreNotesOf asked (findings lines) notes
+
+-- The question of the core is the last that is refuted, and no model has the core. Of the core, these have their marks.
+-- Each question so far that is on relations of the core alone is on all of it, or on all but one of those with marks.
+pub record IsAtCore (g : Setting) (asked : Asked) (lines : List CertRecord) (core : List ℕ) (later : List Finding)
+    (marked : List ℕ) : Type 0 where
+  pub are_last : AreLast asked (findings lines) core later
+  pub refuted : Says g (question_of asked core) (answers.Refuted [])
+  pub have_marks : All (IsMarkedIn asked core later) marked
+  pub so_far : (question : List Word) (numbers : List ℕ) → Contains lines (Question question)
+      → Selects asked question numbers → All (Contains core) numbers
+      → All (Contains numbers) core ⊎ Any (λ one. AreAllBut core one numbers) marked
+
+-- the core of which these have their marks
+abbrev pub Marks : Asked → (core marked : List ℕ) → Setting → List CertRecord → Type 0
+Marks asked core marked g lines = (later : List Finding) × IsAtCore g asked lines core later marked
+
+-- the core, right behind the line that refutes it
+abbrev pub HasJust : Asked → (core : List ℕ) → Setting → List CertRecord → Type 0
+HasJust asked core g lines = (earlier : List CertRecord) × (hints : List ℕ) × (lines ≡ earlier ++ Refuted hints ∷ [])
+    × IsAtCore g asked lines core [] []
+
+-- what the lines find has an answer
+abbrev pub IsAnsweredAt : Asked → Setting → List CertRecord → Type 0
+IsAnsweredAt asked g lines = AreAnswered asked (findings lines)
+
+-- ---- what is written behind some lines
+
+-- Lines were written whose questions come in their order, and then this holds.
+pub record IsFurther (g : Setting) (asked : Asked) (To : Setting → List CertRecord → Type 0) (lines : List CertRecord)
+    (old new : DeskView) (b : AskerView) (after : NotesView) : Type 0 where
+  pub added : List CertRecord
+  pub grew : FileGrew (lines_text added) old new
+  pub in_order : AreAsked (IsNextQuestion asked) lines added
+  pub searching : IsSearching g asked (lines ++ added) b after
+  pub holds : To g (lines ++ added)
+
+-- from where one thing holds, the search goes to where another does
+abbrev pub Goes : Asked → (From To : Setting → List CertRecord → Type 0) → DeskView → DeskView → AskerView → AskerView
+    → NotesView → NotesView → Type 0
+Goes asked From To old new a b notes after = (g : Setting) (lines : List CertRecord)
+    → IsSearching g asked lines a notes → From g lines → IsFurther g asked To lines old new b after
+
+-- or the writing stops
+abbrev pub GoesNot : Asked → (From : Setting → List CertRecord → Type 0) → DeskView → DeskView → AskerView → NotesView
+    → WorkError → Type 0
+GoesNot asked From old new a notes error = (g : Setting) (lines : List CertRecord)
+    → IsSearching g asked lines a notes → From g lines → Stops g (IsNextQuestion asked) lines old new error
