@@ -7,6 +7,7 @@ use Rattle.dist_derive.specs.Follows.{Follows}
 use Rattle.dist_outside.specs.DeskView.{DeskView, FileGrew}
 use Rattle.dist_outside.specs.declared.trouble.WorkError.{WorkError}
 use Rattle.dist_solver.specs.Ask.{IsAnswer}
+use Rattle.dist_solver.specs.Evidence.{IsShort}
 use Rattle.dist_solver.specs.declared.answers.Answer.{Answer}
 use Rattle.dist_solver.specs.declared.answers.Answer.TheVariants.{Found, Refuted, Undecided}
 use Rattle.dist_cert.specs.declared.records.CertRecord.{CertRecord}
@@ -18,7 +19,7 @@ use Rattle.dist_cert.specs.Writing.{WriterView}
 use Rattle.dist_subject.specs.Installed.{ModelsStand}
 use Rattle.dist_sweep.specs.Asking.{AskerView, is_derived, question_lines}
 use Rattle.dist_sweep.specs.Words.{closing_line}
-use Rattle.dist_inquiry.specs.Inquiry.{Setting, IsLine, IsWriter, Stops, matter_in}
+use Rattle.dist_inquiry.specs.Inquiry.{Setting, IsLine, IsWriter, OnlyThis, Stops, matter_in}
 
 -- The log is the input clauses and the derived lines among these lines.
 pub record IsLogAt (g : Setting) (before : List CertRecord) (log : ClauseLog) (limit : ℕ) : Type 0 where
@@ -59,10 +60,10 @@ abbrev pub AskMore : DeskView → DeskView → AskerView → AskerView → List 
 AskMore old new a b question answer = (g : Setting) (before : List CertRecord) → IsAt g before a
     → IsAsked g before question old new b answer
 
--- or the writing stopped
+-- or the writing stopped, with no other question
 abbrev pub AskStops : AskerView → List Word → DeskView → DeskView → WorkError → Type 0
 AskStops a question old new error = (g : Setting) (before : List CertRecord) → IsAt g before a
-    → Stops g before old new error
+    → Stops g (OnlyThis before (Question question)) before old new error
 
 -- Where the own line of a question stands behind these lines, what is kept is what those before it hold.
 pub record MayDerive (g : Setting) (before : List CertRecord) (question : List Word) (log : ClauseLog) (limit : ℕ)
@@ -81,6 +82,7 @@ pub record IsDerived (g : Setting) (before : List CertRecord) (question : List W
   pub closing : IsLine g (before ++ Question question ∷ between) (closing_line answer)
   pub answered : IsAnswer log after (clause_of question) limit (Ok answer)
 
--- The hints show that no model makes these assumptions true.
+-- The hints refute the question: the clause of its negated literals follows by them, and they are not too many.
 abbrev pub AreRefuted : ClauseLog → List Word → (hints : List ℕ) → Type 0
 AreRefuted log question hints = Follows log.clauses (map negation (clause_of question)) hints
+    × IsShort log.variables hints

@@ -13,12 +13,16 @@ use Rattle.dist_sweep.specs.Asking.{AskerView}
 use Rattle.dist_sweep.specs.Sweeping.{new_writer}
 use Rattle.dist_inquiry.specs.AnswerText.{IsRightBasis, setting_of}
 use Rattle.dist_inquiry.specs.Asking.{IsAt, IsLogAt}
-use Rattle.dist_inquiry.specs.Inquiry.{Setting, Stops}
-use Rattle.dist_inquiry.specs.Written.{IsCutText, IsStopped, WrittenAnswers}
+use Rattle.dist_inquiry.specs.Inquiry.{AreAsked, Asks, Setting, Stops}
+use Rattle.dist_inquiry.specs.Written.{Course, IsStopped, IsWholeText, WrittenAnswers}
 
 -- the findings of these lines decide the answer
 abbrev pub decided_by : AnswerFile → (numbers : List ℕ) → List CertRecord → Type 0
 decided_by file numbers lines = file.IsDecided numbers (findings lines)
+
+-- what the lines of a file with these numbers go by
+abbrev pub course_of : AnswerFile → (asks : List ℕ → Asks) → (numbers : List ℕ) → Course
+course_of file asks numbers = record { asks = asks numbers; Decided = decided_by file numbers }
 
 -- The search may begin behind a first line with the right numbers: nothing is asked yet.
 pub record MaySettle (file : AnswerFile) (Keeps : List ℕ → Type 0) (limits : Limits) (numbers : List ℕ)
@@ -27,24 +31,29 @@ pub record MaySettle (file : AnswerFile) (Keeps : List ℕ → Type 0) (limits :
   pub at : IsAt (setting_of file limits basis numbers) [] a
   pub keeps : Keeps numbers
 
--- Lines were written behind the first one, and what they find decides the answer, which it tells.
-pub record IsSettled (file : AnswerFile) (Told : List ℕ → List Finding → Type 0) (g : Setting) (numbers : List ℕ)
-    (old new : DeskView) (b : AskerView) : Type 0 where
+-- Lines were written behind the first one that ask what may be asked, and what they find decides the answer, which it
+-- tells.
+pub record IsSettled (file : AnswerFile) (asks : List ℕ → Asks) (Told : List ℕ → List Finding → Type 0) (g : Setting)
+    (numbers : List ℕ) (old new : DeskView) (b : AskerView) : Type 0 where
   pub lines : List CertRecord
   pub grew : FileGrew (lines_text lines) old new
   pub at : IsAt g lines b
+  pub asked : AreAsked (asks numbers) [] lines
   pub decided : file.IsDecided numbers (findings lines)
   pub told : Told numbers (findings lines)
 
-abbrev pub SettleMore : AnswerFile → (Keeps : List ℕ → Type 0) → (Told : List ℕ → List Finding → Type 0) → DeskView
-    → DeskView → AskerView → AskerView → Type 0
-SettleMore file Keeps Told old new a b = (limits : Limits) (numbers : List ℕ) (basis : Inputs)
+abbrev pub SettleMore : AnswerFile → (Keeps : List ℕ → Type 0) → (asks : List ℕ → Asks)
+    → (Told : List ℕ → List Finding → Type 0) → DeskView → DeskView → AskerView → AskerView → Type 0
+SettleMore file Keeps asks Told old new a b = (limits : Limits) (numbers : List ℕ) (basis : Inputs)
     → MaySettle file Keeps limits numbers basis a
-    → IsSettled file Told (setting_of file limits basis numbers) numbers old new b
+    → IsSettled file asks Told (setting_of file limits basis numbers) numbers old new b
 
-abbrev pub SettleStops : AnswerFile → (Keeps : List ℕ → Type 0) → DeskView → DeskView → AskerView → WorkError → Type 0
-SettleStops file Keeps old new a error = (limits : Limits) (numbers : List ℕ) (basis : Inputs)
-    → MaySettle file Keeps limits numbers basis a → Stops (setting_of file limits basis numbers) [] old new error
+-- or the writing stops
+abbrev pub SettleStops : AnswerFile → (Keeps : List ℕ → Type 0) → (asks : List ℕ → Asks) → DeskView → DeskView
+    → AskerView → WorkError → Type 0
+SettleStops file Keeps asks old new a error = (limits : Limits) (numbers : List ℕ) (basis : Inputs)
+    → MaySettle file Keeps limits numbers basis a
+    → Stops (setting_of file limits basis numbers) (asks numbers) [] old new error
 
 -- Nothing was written or asked, and what is kept fits the first line and the limits.
 pub record MayInquire (file : AnswerFile) (Keeps : List ℕ → Type 0) (limits : Limits) (numbers : List ℕ)
@@ -55,30 +64,31 @@ pub record MayInquire (file : AnswerFile) (Keeps : List ℕ → Type 0) (limits 
   pub keeps : Keeps numbers
 
 -- Where nothing was written, all lines were, from the first to the end.
-pub record IsInquired (file : AnswerFile) (Told : List ℕ → List Finding → Type 0) (limits : Limits) (numbers : List ℕ)
-    (basis : Inputs) (old new : DeskView) : Type 0 where
+pub record IsInquired (file : AnswerFile) (asks : List ℕ → Asks) (Told : List ℕ → List Finding → Type 0)
+    (limits : Limits) (numbers : List ℕ) (basis : Inputs) (old new : DeskView) : Type 0 where
   pub text : List ℕ
   pub grew : FileGrew text old new
   pub answered : IsAnswered file limits text numbers (Told numbers)
-  pub so_far : IsCutText (setting_of file limits basis numbers) (decided_by file numbers) text
+  pub whole : IsWholeText (setting_of file limits basis numbers) (course_of file asks numbers) text
 
-abbrev pub InquiryMore : AnswerFile → (Keeps : List ℕ → Type 0) → (Told : List ℕ → List Finding → Type 0)
-    → (numbers : List ℕ) → DeskView → DeskView → AskerView → Type 0
-InquiryMore file Keeps Told numbers old new a = (limits : Limits) (basis : Inputs)
-    → MayInquire file Keeps limits numbers basis a → IsInquired file Told limits numbers basis old new
+abbrev pub InquiryMore : AnswerFile → (Keeps : List ℕ → Type 0) → (asks : List ℕ → Asks)
+    → (Told : List ℕ → List Finding → Type 0) → (numbers : List ℕ) → DeskView → DeskView → AskerView → Type 0
+InquiryMore file Keeps asks Told numbers old new a = (limits : Limits) (basis : Inputs)
+    → MayInquire file Keeps limits numbers basis a → IsInquired file asks Told limits numbers basis old new
 
 -- or the writing stops
-abbrev pub InquiryStops : AnswerFile → (Keeps : List ℕ → Type 0) → (numbers : List ℕ) → DeskView → DeskView → AskerView
-    → WorkError → Type 0
-InquiryStops file Keeps numbers old new a error = (limits : Limits) (basis : Inputs)
+abbrev pub InquiryStops : AnswerFile → (Keeps : List ℕ → Type 0) → (asks : List ℕ → Asks) → (numbers : List ℕ)
+    → DeskView → DeskView → AskerView → WorkError → Type 0
+InquiryStops file Keeps asks numbers old new a error = (limits : Limits) (basis : Inputs)
     → MayInquire file Keeps limits numbers basis a
-    → IsStopped (setting_of file limits basis numbers) (decided_by file numbers) old new error
+    → IsStopped (setting_of file limits basis numbers) (course_of file asks numbers) old new error
 
--- Where the search may begin, the answer is as it is to be, and so is what it leaves of the file: at Ok it is accepted,
--- with an answer that the search tells.
-abbrev pub InquiryAnswers : AnswerFile → (Keeps : List ℕ → Type 0) → (Told : List ℕ → List Finding → Type 0)
-    → (numbers : List ℕ) → AskerView → (name : List ℕ) → DeskView → DeskView → Result (Unit {0}) WorkError → Type 0
-InquiryAnswers file Keeps Told numbers a name old new result = (limits : Limits) (basis : Inputs)
+-- Where the search may begin, the answer is as it is to be, and so is what it leaves of the file: at Ok it is whole and
+-- accepted, with an answer that the search tells. Whatever is written of it asks what the search may ask.
+abbrev pub InquiryAnswers : AnswerFile → (Keeps : List ℕ → Type 0) → (asks : List ℕ → Asks)
+    → (Told : List ℕ → List Finding → Type 0) → (numbers : List ℕ) → AskerView → (name : List ℕ) → DeskView → DeskView
+    → Result (Unit {0}) WorkError → Type 0
+InquiryAnswers file Keeps asks Told numbers a name old new result = (limits : Limits) (basis : Inputs)
     → MayInquire file Keeps limits numbers basis a
-    → WrittenAnswers (setting_of file limits basis numbers) (decided_by file numbers)
+    → WrittenAnswers (setting_of file limits basis numbers) (course_of file asks numbers)
     (λ done text. IsAnswered file limits text numbers (Told numbers)) name old new result

@@ -15,7 +15,7 @@ use Rattle.dist_cert.specs.declared.records.CertRecord.{CertRecord}
 use Rattle.dist_cert.specs.declared.records.CertRecord.TheVariants.{Question, Derived, Refuted, Installation, Undecided}
 use Rattle.dist_cert.specs.declared.records.Header.{Header}
 use Rattle.dist_cert.specs.FileLines.{file_text, lines_text}
-use Rattle.dist_cert.specs.Form.{HasForm, is_end, record_text}
+use Rattle.dist_cert.specs.Form.{HasForm, Word, is_end, record_text}
 use Rattle.dist_cert.specs.Groups.{derived}
 use Rattle.dist_cert.specs.LineRules.{HasRecordFault}
 use Rattle.dist_cert.specs.Part.{AreFewHints, AsksSome, IsNextDerived}
@@ -60,6 +60,36 @@ pub record IsLine (g : Setting) (before : List CertRecord) (step : CertRecord) :
   pub faultless : (cause : CertCause) → ¬ HasRecordFault (matter_in g) (header_in g) before step cause
   pub next : IsNextLine g before step
 
+-- ---- questions
+
+-- which question may be asked behind some lines
+abbrev pub Asks : Type 1
+Asks = (before : List CertRecord) → (question : List Word) → Type 0
+
+-- a line that is a question may be asked behind these lines; other lines ask nothing
+abbrev pub MayAsk : Asks → List CertRecord → CertRecord → Type 0
+MayAsk asks before (Question question) = asks before question
+MayAsk asks before step = Unit {0}
+
+-- each question of the lines may be asked, behind the lines before it
+abbrev pub AreAsked : Asks → (before lines : List CertRecord) → Type 0
+AreAsked asks before [] = Unit {0}
+AreAsked asks before (step ∷ steps) = MayAsk asks before step × AreAsked asks (before ++ step ∷ []) steps
+
+-- no question may be asked
+abbrev pub NoQuestion : Asks
+NoQuestion = λ before question. ⊥
+
+-- the question of this line alone may be asked, right behind these lines; none where the line is no question
+abbrev pub OnlyThis : List CertRecord → CertRecord → Asks
+OnlyThis lines step = λ before question. (before ≡ lines) × (step ≡ Question question)
+
+-- the line may come next, and a question may be asked there
+abbrev pub MayCome : Setting → Asks → List CertRecord → CertRecord → Type 0
+MayCome g asks before step = IsLine g before step × MayAsk asks before step
+
+-- ---- lines that are written
+
 -- each line may come next, behind those before it
 abbrev pub AllNext : Setting → List CertRecord → List CertRecord → Type 0
 AllNext g before [] = Unit {0}
@@ -98,29 +128,33 @@ Passes g steps Certificate = g.limits.certificate < length (file_text g.first st
 Passes g steps what = ⊥
 
 -- one line more would pass a number
-abbrev pub IsPassed : Setting → List CertRecord → WorkError → Type 0
-IsPassed g lines (TooLarge what) = (step : CertRecord) × IsLine g lines step × Passes g (lines ++ step ∷ []) what
-IsPassed g lines error = ⊥
+abbrev pub IsPassed : Setting → Asks → List CertRecord → WorkError → Type 0
+IsPassed g asks lines (TooLarge what) = (step : CertRecord) × MayCome g asks lines step
+    × Passes g (lines ++ step ∷ []) what
+IsPassed g asks lines error = ⊥
 
 -- The bytes are a front of the line that comes next.
-abbrev pub IsCutOff : Setting → List CertRecord → List ℕ → Type 0
-IsCutOff g lines cut = (step : CertRecord) × IsLine g lines step × IsFrontOf (ended (record_text step)) cut
+abbrev pub IsCutOff : Setting → Asks → List CertRecord → List ℕ → Type 0
+IsCutOff g asks lines cut = (step : CertRecord) × MayCome g asks lines step × IsFrontOf (ended (record_text step)) cut
 
 -- why the writing stops, with a cut line or without one
-abbrev pub StopsBy : Setting → List CertRecord → List ℕ → DeskView → DeskView → WorkError → Type 0
-StopsBy g lines cut old new WriteFault = Rose old.write_faults new.write_faults
-StopsBy g lines cut old new (TooLarge what) = (cut ≡ []) × IsPassed g lines (TooLarge what)
-StopsBy g lines cut old new NoMemory = Unit {0}
-StopsBy g lines cut old new error = ⊥
+abbrev pub StopsBy : Setting → Asks → List CertRecord → List ℕ → DeskView → DeskView → WorkError → Type 0
+StopsBy g asks lines cut old new WriteFault = Rose old.write_faults new.write_faults
+StopsBy g asks lines cut old new (TooLarge what) = (cut ≡ []) × IsPassed g asks lines (TooLarge what)
+StopsBy g asks lines cut old new NoMemory = Unit {0}
+StopsBy g asks lines cut old new error = ⊥
 
--- The writing went on from some lines and stopped: more lines were written, and perhaps a front of one more.
-pub record Stops (g : Setting) (before : List CertRecord) (old new : DeskView) (error : WorkError) : Type 0 where
+-- The writing went on from some lines and stopped: more lines were written, and perhaps a front of one more. They ask
+-- what may be asked.
+pub record Stops (g : Setting) (asks : Asks) (before : List CertRecord) (old new : DeskView) (error : WorkError)
+    : Type 0 where
   pub added : List CertRecord
   pub cut : List ℕ
   pub written : AreWritten g (before ++ added)
+  pub asked : AreAsked asks before added
   pub grew : FileGrew (lines_text added ++ cut) old new
-  pub cut_off : (cut ≡ []) ⊎ IsCutOff g (before ++ added) cut
-  pub by : StopsBy g (before ++ added) cut old new error
+  pub cut_off : (cut ≡ []) ⊎ IsCutOff g asks (before ++ added) cut
+  pub by : StopsBy g asks (before ++ added) cut old new error
 
 -- ---- putting one line
 
@@ -133,7 +167,7 @@ PutMore w after step = (g : Setting) (before : List CertRecord) → IsWriter g b
 -- or the writing stops there
 abbrev pub PutStops : WriterView → CertRecord → DeskView → DeskView → WorkError → Type 0
 PutStops w step old new error = (g : Setting) (before : List CertRecord) → IsWriter g before w → IsLine g before step
-    → Stops g before old new error
+    → Stops g (OnlyThis before step) before old new error
 
 -- ---- putting lines one after another
 
@@ -141,9 +175,10 @@ abbrev pub PutAll : WriterView → WriterView → List CertRecord → Type 0
 PutAll w after steps = (g : Setting) (before : List CertRecord) → IsWriter g before w → AllNext g before steps
     → KeepsLines g.limits (before ++ steps) → IsWriter g (before ++ steps) after
 
+-- or the writing stops among them, where they ask nothing
 abbrev pub PutAllStops : WriterView → List CertRecord → DeskView → DeskView → WorkError → Type 0
 PutAllStops w steps old new error = (g : Setting) (before : List CertRecord) → IsWriter g before w
-    → AllNext g before steps → KeepsLines g.limits (before ++ steps) → Stops g before old new error
+    → AllNext g before steps → KeepsLines g.limits (before ++ steps) → Stops g NoQuestion before old new error
 
 -- the writer stands behind a front of them
 abbrev pub PutFront : WriterView → WriterView → (steps front : List CertRecord) → Type 0

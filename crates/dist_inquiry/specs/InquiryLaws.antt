@@ -1,62 +1,196 @@
--- Laws of where the writing of a file of one question stops behind more lines. Proofs cite them, those of the crates
--- above too.
-use Rattle.std.proofs.Common.{◌≡◌, ◌⊎◌, inl, ℕ, ◌≤◌, List, [], ◌∷◌, ◌++◌, refl, ap, sym, subst, ◌∙◌, append_assoc}
-use Rattle.std.proofs.Common.{append-nil}
+-- Laws of which questions lines ask, and of where the writing of a file of one question stops behind more lines. Proofs
+-- cite them, those of the crates above too.
+use Rattle.std.proofs.Common.{◌≡◌, ◌⊎◌, inl, inr, ℕ, ◌≤◌, true, List, [], ◌∷◌, ◌++◌, refl, ap, sym, subst, ◌∙◌}
+use Rattle.std.proofs.Common.{append_assoc, append-nil}
+use Rattle.std.specs.List.{AllPass}
+use Rattle.std.proofs.lemmas.Bool.{false≢true, true≢false}
+use Rattle.std.proofs.lemmas.List.Elements.{All-head, All-tail}
 use Rattle.dist_outside.specs.Counts.{Rose}
 use Rattle.dist_outside.specs.DeskView.{DeskView, FileGrew, WriteCounts}
 use Rattle.dist_outside.specs.declared.trouble.WorkError.{WorkError}
 use Rattle.dist_outside.specs.declared.trouble.WorkError.TheVariants.{ReadFault, WriteFault, TooLarge, NoMemory}
+use Rattle.dist_solver.specs.declared.answers.Answer.{Answer}
+use Rattle.dist_solver.specs.declared.answers.Answer.TheVariants as answers
 use Rattle.dist_cert.specs.declared.records.CertRecord.{CertRecord}
+use Rattle.dist_cert.specs.declared.records.CertRecord.TheVariants.{Question, Derived}
 use Rattle.dist_cert.specs.FileLines.{lines_text}
+use Rattle.dist_cert.specs.Form.{Word}
 use Rattle.dist_cert.specs.Writing.{WriterView}
+use Rattle.dist_sweep.specs.Asking.{is_derived, question_lines}
 use Rattle.dist_sweep.specs.ScriptLaws.{TwiceLaw, lines-more, rose-later}
-use Rattle.dist_inquiry.specs.Inquiry.{Setting, AreWritten, IsWriter, IsCutOff, StopsBy, Stops}
+use Rattle.dist_sweep.specs.Words.{closing_line}
+use Rattle.dist_inquiry.specs.Inquiry.{Setting, Asks, MayAsk, AreAsked, AreWritten, IsWriter, IsCutOff, MayCome}
+use Rattle.dist_inquiry.specs.Inquiry.{NoQuestion, OnlyThis, Stops, StopsBy}
+
+-- ---- which questions lines ask
+
+-- derived lines ask nothing
+pub none-asked : (asks : Asks) (before steps : List CertRecord) → AllPass is_derived steps → AreAsked asks before steps
+none-asked asks before [] all = tt
+none-asked asks before (Derived literals hints ∷ steps) all = (
+  tt,
+  none-asked asks (before ++ Derived literals hints ∷ []) steps
+      (All-tail (λ s. is_derived s ≡ true) (Derived literals hints) steps all),
+)
+none-asked asks before (step ∷ steps) all = absurd (false≢true (All-head (λ s. is_derived s ≡ true) step steps all))
+
+-- the line of an answer asks nothing
+closing-asks : (asks : Asks) (before : List CertRecord) (answer : Answer)
+    → AreAsked asks before (closing_line answer ∷ [])
+closing-asks asks before (answers.Found values) = (tt, tt)
+closing-asks asks before (answers.Refuted hints) = (tt, tt)
+closing-asks asks before answers.Undecided = (tt, tt)
+
+pub asked-join : (asks : Asks) (before steps more : List CertRecord) → AreAsked asks before steps
+    → AreAsked asks (before ++ steps) more → AreAsked asks before (steps ++ more)
+asked-join asks before [] more first rest = subst (λ b. AreAsked asks b more) (append-nil before) rest
+asked-join asks before (x ∷ steps) more first rest = (
+  first.0,
+  asked-join asks (before ++ x ∷ []) steps more first.1
+      (subst (λ b. AreAsked asks b more) (sym (append_assoc before (x ∷ []) steps)) rest),
+)
+
+-- the lines of a question ask this one alone
+pub question-asked : (asks : Asks) (before : List CertRecord) (question : List Word) (between : List CertRecord)
+    (answer : Answer) → asks before question → AllPass is_derived between
+    → AreAsked asks before (question_lines question between (closing_line answer))
+question-asked asks before question between answer may all = (
+  may,
+  asked-join asks (before ++ Question question ∷ []) between (closing_line answer ∷ [])
+      (none-asked asks (before ++ Question question ∷ []) between all)
+      (closing-asks asks ((before ++ Question question ∷ []) ++ between) answer),
+)
+
+-- lines of which each may be asked, and then one more
+pub lines-asked : (asks : Asks) (before : List CertRecord) (question : List Word) (between : List CertRecord)
+    (answer : Answer) → AreAsked asks [] before → asks before question → AllPass is_derived between
+    → AreAsked asks [] (before ++ question_lines question between (closing_line answer))
+lines-asked asks before question between answer first may all =
+    asked-join asks [] before (question_lines question between (closing_line answer)) first
+    (question-asked asks before question between answer may all)
+
+-- ---- more questions may be asked
+
+abbrev pub AllowsMore : Asks → Asks → Type 0
+AllowsMore asks wider = (before : List CertRecord) (question : List Word) → asks before question → wider before question
+
+pub may-wider : (asks wider : Asks) → AllowsMore asks wider → (before : List CertRecord) (step : CertRecord)
+    → MayAsk asks before step → MayAsk wider before step
+may-wider asks wider more before (Question question) may = more before question may
+may-wider asks wider more before step may = tt
+
+pub asked-wider : (asks wider : Asks) → AllowsMore asks wider → (before steps : List CertRecord)
+    → AreAsked asks before steps → AreAsked wider before steps
+asked-wider asks wider more before [] all = tt
+asked-wider asks wider more before (step ∷ steps) all =
+    (may-wider asks wider more before step all.0, asked-wider asks wider more (before ++ step ∷ []) steps all.1)
+
+come-wider : (g : Setting) (asks wider : Asks) → AllowsMore asks wider → (before : List CertRecord) (step : CertRecord)
+    → MayCome g asks before step → MayCome g wider before step
+come-wider g asks wider more before step may = (may.0, may-wider asks wider more before step may.1)
+
+cut-wider : (g : Setting) (asks wider : Asks) → AllowsMore asks wider → (lines : List CertRecord) (cut : List ℕ)
+    → (cut ≡ []) ⊎ IsCutOff g asks lines cut → (cut ≡ []) ⊎ IsCutOff g wider lines cut
+cut-wider g asks wider more lines cut (inl none) = inl none
+cut-wider g asks wider more lines cut (inr off) =
+    inr (off.0, come-wider g asks wider more lines off.0 off.1, off.2)
+
+by-wider : (g : Setting) (asks wider : Asks) → AllowsMore asks wider → (lines : List CertRecord) (cut : List ℕ)
+    (old new : DeskView) (error : WorkError) → StopsBy g asks lines cut old new error
+    → StopsBy g wider lines cut old new error
+by-wider g asks wider more lines cut old new WriteFault by = by
+by-wider g asks wider more lines cut old new (TooLarge what) by =
+    (by.0, (by.1.0, come-wider g asks wider more lines by.1.0 by.1.1, by.1.2))
+by-wider g asks wider more lines cut old new NoMemory by = tt
+by-wider g asks wider more lines cut old new ReadFault by = by
+
+pub stops-wider : (g : Setting) (asks wider : Asks) → AllowsMore asks wider → (before : List CertRecord)
+    (old new : DeskView) (error : WorkError) → Stops g asks before old new error → Stops g wider before old new error
+stops-wider g asks wider more before old new error stops = record {
+  added = stops.added;
+  cut = stops.cut;
+  written = stops.written;
+  asked = asked-wider asks wider more before stops.added stops.asked;
+  grew = stops.grew;
+  cut_off = cut-wider g asks wider more (before ++ stops.added) stops.cut stops.cut_off;
+  by = by-wider g asks wider more (before ++ stops.added) stops.cut old new error stops.by;
+}
+
+abbrev words-of : CertRecord → List Word
+words-of (Question words) = words
+words-of step = []
+
+-- where a question may be asked, so may this question alone
+pub only-this : (asks : Asks) (before : List CertRecord) (question : List Word) → asks before question
+    → AllowsMore (OnlyThis before (Question question)) asks
+only-this asks before question may b q this =
+    subst (λ ls. asks ls q) (sym this.0) (subst (λ w. asks before w) (ap (λ (s : CertRecord). words-of s) this.1) may)
+
+-- a derived line asks nothing
+pub no-question : (before : List CertRecord) (step : CertRecord) → is_derived step ≡ true
+    → AllowsMore (OnlyThis before step) NoQuestion
+no-question before step derived b q this =
+    false≢true (sym (ap (λ (s : CertRecord). is_derived s) this.1) ∙ derived)
+
+-- the writing of one question's lines stopped
+pub stops-asking : (g : Setting) (asks : Asks) (before : List CertRecord) (question : List Word) (old new : DeskView)
+    (error : WorkError) → asks before question → Stops g (OnlyThis before (Question question)) before old new error
+    → Stops g asks before old new error
+stops-asking g asks before question old new error may =
+    stops-wider g (OnlyThis before (Question question)) asks (only-this asks before question may) before old new error
+
+-- the writing of lines that ask nothing stopped
+pub stops-silent : (g : Setting) (asks : Asks) (before : List CertRecord) (old new : DeskView) (error : WorkError)
+    → Stops g NoQuestion before old new error → Stops g asks before old new error
+stops-silent g asks = stops-wider g NoQuestion asks (λ before question none. absurd none)
+
+-- ---- where the writing stops
 
 -- nothing more was written than some bytes behind the lines
-pub stopped-here : (g : Setting) (before : List CertRecord) (w : WriterView) (old new : DeskView) (error : WorkError)
-    (cut : List ℕ) → IsWriter g before w
-    → FileGrew cut old new
-    → (cut ≡ []) ⊎ IsCutOff g before cut → StopsBy g before cut old new error → Stops g before old new error
-stopped-here g before w old new error cut writer grew cut_off by = record {
+pub stopped-here : (g : Setting) (asks : Asks) (before : List CertRecord) (w : WriterView) (old new : DeskView)
+    (error : WorkError) (cut : List ℕ) → IsWriter g before w → FileGrew cut old new
+    → (cut ≡ []) ⊎ IsCutOff g asks before cut → StopsBy g asks before cut old new error
+    → Stops g asks before old new error
+stopped-here g asks before w old new error cut writer grew cut_off by = record {
   added = [];
   cut = cut;
   written = subst (λ ls. AreWritten g ls) (sym (append-nil before)) writer.written;
+  asked = tt;
   grew = grew;
-  cut_off = subst (λ ls. (cut ≡ []) ⊎ IsCutOff g ls cut) (sym (append-nil before)) cut_off;
-  by = subst (λ ls. StopsBy g ls cut old new error) (sym (append-nil before)) by;
+  cut_off = subst (λ ls. (cut ≡ []) ⊎ IsCutOff g asks ls cut) (sym (append-nil before)) cut_off;
+  by = subst (λ ls. StopsBy g asks ls cut old new error) (sym (append-nil before)) by;
 }
 
-pub stops-for-memory : (g : Setting) (before : List CertRecord) (w : WriterView) (old new : DeskView)
-    → IsWriter g before w → FileGrew [] old new
-    → Stops g before old new NoMemory
-stops-for-memory g before w old new writer grew = stopped-here g before w old new NoMemory [] writer grew (inl refl)
-    tt
+pub stops-for-memory : (g : Setting) (asks : Asks) (before : List CertRecord) (w : WriterView) (old new : DeskView)
+    → IsWriter g before w → FileGrew [] old new → Stops g asks before old new NoMemory
+stops-for-memory g asks before w old new writer grew =
+    stopped-here g asks before w old new NoMemory [] writer grew (inl refl) tt
 
-pub by-later : (g : Setting) (lines : List CertRecord) (cut : List ℕ) (old mid new : DeskView) (error : WorkError)
-    → WriteCounts old mid → WriteCounts mid new
-    → StopsBy g lines cut mid new error → StopsBy g lines cut old new error
-by-later g lines cut old mid new WriteFault first second by =
+pub by-later : (g : Setting) (asks : Asks) (lines : List CertRecord) (cut : List ℕ) (old mid new : DeskView)
+    (error : WorkError) → WriteCounts old mid → WriteCounts mid new → StopsBy g asks lines cut mid new error
+    → StopsBy g asks lines cut old new error
+by-later g asks lines cut old mid new WriteFault first second by =
     rose-later old.write_faults mid.write_faults new.write_faults first.write_faults_stand second.write_faults_stand by
-by-later g lines cut old mid new (TooLarge what) first second by = by
-by-later g lines cut old mid new NoMemory first second by = tt
-by-later g lines cut old mid new ReadFault first second by = by
+by-later g asks lines cut old mid new (TooLarge what) first second by = by
+by-later g asks lines cut old mid new NoMemory first second by = tt
+by-later g asks lines cut old mid new ReadFault first second by = by
 
-pub stops-after : TwiceLaw → (g : Setting) (before more : List CertRecord) (old mid new : DeskView)
-    (error : WorkError) → FileGrew (lines_text more) old mid
-    → Stops g (before ++ more) mid new error
-    → Stops g before old new error
-stops-after twice g before more old mid new error grew stops =
+pub stops-after : TwiceLaw → (g : Setting) (asks : Asks) (before more : List CertRecord) (old mid new : DeskView)
+    (error : WorkError) → FileGrew (lines_text more) old mid → AreAsked asks before more
+    → Stops g asks (before ++ more) mid new error → Stops g asks before old new error
+stops-after twice g asks before more old mid new error grew asked stops =
     let place = append_assoc before more stops.added in
     record {
       added = more ++ stops.added;
       cut = stops.cut;
       written = subst (λ ls. AreWritten g ls) place stops.written;
+      asked = asked-join asks before more stops.added asked stops.asked;
       grew = subst (λ bytes. FileGrew bytes old new) (sym (append_assoc (lines_text more) (lines_text stops.added)
           stops.cut)
           ∙ ap (λ (text : List ℕ). text ++ stops.cut) (sym (lines-more more stops.added)))
           (twice (lines_text more) (lines_text stops.added ++ stops.cut) old mid new grew stops.grew);
-      cut_off = subst (λ ls. (stops.cut ≡ []) ⊎ IsCutOff g ls stops.cut) place stops.cut_off;
-      by = subst (λ ls. StopsBy g ls stops.cut old new error) place
-          (by-later g ((before ++ more) ++ stops.added)
+      cut_off = subst (λ ls. (stops.cut ≡ []) ⊎ IsCutOff g asks ls stops.cut) place stops.cut_off;
+      by = subst (λ ls. StopsBy g asks ls stops.cut old new error) place
+          (by-later g asks ((before ++ more) ++ stops.added)
           stops.cut old mid new error grew.counts stops.grew.counts stops.by);
     }

@@ -1,28 +1,34 @@
 //! Questions, each with its lines.
-ghost use Rattle.std.specs.Prelude.{◌≡◌, ◌≤◌, List, [], ◌∷◌, ◌++◌, IfErr, IfOk, OnOk, length};
+ghost use Rattle.std.specs.Prelude.{◌≡◌, ◌≤◌, ◌↔◌, List, [], ◌∷◌, ◌++◌, IfErr, IfOk, IfSome, IsFalse, IsTrue, MatchOption, OnOk, length, map};
 ghost use Rattle.dist_base.specs.declared.TheConstants.{MAX_LINES, MAX_LINE_LITERALS, MAX_VARIABLES};
-ghost use Rattle.dist_clause.specs.Formula.{IsClauseOver};
+ghost use Rattle.dist_clause.specs.ClauseList.{clause_at};
+ghost use Rattle.dist_clause.specs.Formula.{IsClauseOver, negation};
+ghost use Rattle.dist_derive.specs.Follows.{EachLineFollows, Follows, IsNumberOf};
 ghost use Rattle.dist_outside.specs.DeskView.{FileGrew};
 ghost use Rattle.dist_outside.specs.Files.{IsWriting};
-ghost use Rattle.dist_solver.specs.Ask.{IsAnswer};
+ghost use Rattle.dist_solver.specs.Ask.{IsAnswer, IsRefutation};
+ghost use Rattle.dist_solver.specs.Evidence.{IsShort};
+ghost use Rattle.dist_solver.specs.declared.answers.Answer.TheVariants as answers;
 ghost use Rattle.dist_cert.specs.FileLines.{IsOneLine};
-ghost use Rattle.dist_cert.specs.Form.{KeepsRules, Word, record_text};
+ghost use Rattle.dist_cert.specs.Form.{AreFromOne, KeepsRules, Word, record_text};
 ghost use Rattle.dist_cert.specs.Groups.{clause_of};
 ghost use Rattle.dist_cert.specs.Writing.{ended};
 ghost use Rattle.dist_cert.specs.declared.records.CertRecord.{CertRecord};
 ghost use Rattle.dist_cert.specs.declared.records.CertRecord.TheVariants.{End, Question};
+ghost use Rattle.dist_cert.specs.declared.records.CertRecord.TheVariants as lines;
 ghost use Rattle.dist_sweep.specs.Asking.{IsOver, work_of};
 ghost use Rattle.dist_sweep.specs.Script.{Grows};
 ghost use Rattle.dist_sweep.specs.Sweeping.{new_writer};
 ghost use Rattle.dist_sweep.specs.Words.{IsAnswerOver, closing_line};
-ghost use Rattle.dist_inquiry.specs.Asking.{AskMore, AskStops, IsDerived, MayDerive};
+ghost use Rattle.dist_inquiry.specs.Asking.{AreRefuted, AskMore, AskStops, IsDerived, MayDerive};
 ghost use Rattle.dist_inquiry.specs.Edges.{EndMore, EndStops, FirstMore, FirstStops};
-ghost use Rattle.dist_inquiry.specs.Inquiry.{PutMore, PutStops, Setting, Stops};
+ghost use Rattle.dist_inquiry.specs.Inquiry.{NoQuestion, PutMore, PutStops, Setting, Stops};
 
 use crate::putting::{put_derived, put_line};
 use crate::words::clause_of;
 use dist_cert::{CertRecord, Items, Writer};
 use dist_clause::{ClauseSet, Lit};
+use dist_derive::{Log, Scratch, lines_keep_models};
 use dist_outside::{Desk, Limits, What, WorkError, file_grows};
 use dist_solver::{Answer, AskError, Solver};
 use dist_sweep::true_variables;
@@ -97,7 +103,7 @@ fn derive<D: Desk>(
         → IsDerived g before question (D.view desk.old) (D.view desk.new) solver.old.log solver.new.log limit writer.new answer) }
     ensures err { IfErr result (λ error. (g : Setting) (before : List CertRecord) (question : List Word) → clause_of question ≡ assumptions.now
         → MayDerive g before question solver.old.log limit writer.old
-        → Stops g (before ++ Question question ∷ []) (D.view desk.old) (D.view desk.new) error) }
+        → Stops g NoQuestion (before ++ Question question ∷ []) (D.view desk.old) (D.view desk.new) error) }
     ensures over { IfOk result (IsAnswerOver solver.old.log.variables) }
     ensures answered { IfOk result (λ answer. IsAnswer solver.old.log solver.new.log assumptions.now limit (Ok answer)) }
     ensures variables { solver.new.log.variables ≡ solver.old.log.variables }
@@ -151,6 +157,59 @@ fn put_answer<D: Desk>(
     file_grows();
     let step = closing(alloc, answer, variables)?;
     put_line(writer, desk, &step)
+}
+
+/// The negated literals.
+fn negated(alloc: Global, literals: &[Lit]) -> Result<Vec<Lit>, AllocError>
+    ensures { IfOk result (λ clause. clause.items ≡ map negation literals.now) }
+{
+    literals.iter().map(|l| l.negated()).collect(alloc)
+}
+
+/// Whether assumptions are refuted by these hints, which are not too many.
+fn are_refuted(
+    alloc: Global,
+    log: &Log,
+    assumptions: &[Lit],
+    hints: &[u32],
+) -> Result<bool, AllocError>
+    requires assumptions { IsClauseOver log.now.variables assumptions.now }
+    requires lines_follow { EachLineFollows log.now.inputs log.now.clauses }
+    ensures exactly { IfOk result (λ yes. IsTrue yes
+        ↔ Follows log.now.clauses (map negation assumptions.now) hints.now × IsShort log.now.variables hints.now) }
+    ensures refuted { IfOk result (λ yes. IsTrue yes → IsRefutation log.now assumptions.now hints.now) }
+    ensures numbers { IfOk result (λ yes. IsTrue yes → AreFromOne hints.now) }
+{
+    lines_keep_models();
+    if hints.len() > log.variables() as usize + 1 {
+        return Ok(false);
+    }
+    let clause = negated(alloc, assumptions)?;
+    let mut scratch = Scratch::new(alloc, log.variables())?;
+    Ok(log.follows(&mut scratch, &clause, hints))
+}
+
+/// Puts the line that closes a question as refuted by hints.
+fn put_refuted<D: Desk>(
+    alloc: Global,
+    writer: &mut Writer,
+    desk: &mut D,
+    hints: &[u32],
+) -> Result<(), WorkError>
+    requires writing { IsWriting (D.view desk.old).mode }
+    requires numbers { AreFromOne hints.now }
+    ensures grew { OnOk result (FileGrew (ended (record_text (lines.Refuted hints.now))) (D.view desk.old) (D.view desk.new)) }
+    ensures ok { OnOk result (PutMore writer.old writer.new (lines.Refuted hints.now)) }
+    ensures err { IfErr result (PutStops writer.old (lines.Refuted hints.now) (D.view desk.old) (D.view desk.new)) }
+    ensures grows { Grows (D.view desk.old) (D.view desk.new) }
+{
+    file_grows();
+    let numbers = hints.to_vec(alloc)?;
+    put_line(
+        writer,
+        desk,
+        &CertRecord::Refuted(Items::from_vec(numbers)),
+    )
 }
 
 impl Inquirer {
@@ -236,6 +295,47 @@ impl Inquirer {
         )?;
         put_answer(self.alloc, &mut self.writer, desk, &answer, variables)?;
         Ok(answer)
+    }
+
+    /// The clause of a number, by which hints name it; none where there is none of this number.
+    pub fn clause(&self, number: u32) -> Option<&[Lit]>
+        ensures value { MatchOption result (¬ IsNumberOf self.now.log.clauses number)
+            (λ clause. IsNumberOf self.now.log.clauses number × (clause.now ≡ clause_at self.now.log.clauses number)) }
+        ensures over { IfSome result (λ clause. IsClauseOver self.now.log.variables clause.now) }
+    {
+        if 1 <= number && number <= self.solver.log().len() {
+            Some(self.solver.log().clause(number))
+        } else {
+            None
+        }
+    }
+
+    /// Writes a question that these hints refute, with its answer, where they do. The solver isn't asked.
+    pub fn refute<D: Desk>(
+        &mut self,
+        desk: &mut D,
+        question: &[(u32, bool)],
+        hints: &[u32],
+    ) -> Result<bool, WorkError>
+        requires writing { IsWriting (D.view desk.old).mode }
+        requires question { IsOver self.old.log.variables question.now }
+        ensures exactly { IfOk result (λ yes. IsTrue yes ↔ AreRefuted self.old.log question.now hints.now) }
+        ensures ok { IfOk result (λ yes. IsTrue yes → AskMore (D.view desk.old) (D.view desk.new) self.old self.new question.now (answers.Refuted hints.now)) }
+        ensures none { IfOk result (λ yes. IsFalse yes → (desk.new ≡ desk.old) × (self.new ≡ self.old)) }
+        ensures err { IfErr result (AskStops self.old question.now (D.view desk.old) (D.view desk.new)) }
+        ensures rest { self.new ≡ record self.old { writer = self.new.writer } }
+        ensures grows { Grows (D.view desk.old) (D.view desk.new) }
+    {
+        file_grows();
+        let _stated = self.solver.log().variables();
+        let _within = self.solver.log().len();
+        let assumptions = clause_of(self.alloc, question)?;
+        if !are_refuted(self.alloc, self.solver.log(), &assumptions, hints)? {
+            return Ok(false);
+        }
+        put_question(self.alloc, &mut self.writer, desk, question)?;
+        put_refuted(self.alloc, &mut self.writer, desk, hints)?;
+        Ok(true)
     }
 
     /// Puts the end.

@@ -6,6 +6,7 @@ ghost use Rattle.dist_findings.specs.AnswerFiles.{AnswerFile};
 ghost use Rattle.dist_findings.specs.declared.finding.Finding.{Finding};
 ghost use Rattle.dist_sweep.specs.Script.{Grows};
 ghost use Rattle.dist_inquiry.specs.Inquiring.{SettleMore, SettleStops};
+ghost use Rattle.dist_inquiry.specs.Inquiry.{Asks};
 
 use crate::asker::Inquirer;
 use dist_outside::{Desk, WorkError};
@@ -17,6 +18,9 @@ pub trait Inquiring {
 
     /// It has asked nothing, and can be asked for the answer behind a first line of these numbers.
     ghost keeps: { Self → (numbers : List ℕ) → Type 0 };
+
+    /// Which questions it asks behind a first line of these numbers and some lines.
+    ghost asks: { Self → (numbers : List ℕ) → Asks };
 
     /// The answer that it has come to is what these findings tell.
     ghost told: { Self → (numbers : List ℕ) → List Finding → Type 0 };
@@ -34,7 +38,7 @@ pub trait Inquiring {
         requires writing { IsWriting (D.view desk.old).mode }
         requires limit { 1 ≤ inquirer.old.limit }
         requires fits { fits self.old inquirer.old.log.variables }
-        ensures ok { OnOk result (SettleMore (file self.old) (keeps self.old) (told self.new) (D.view desk.old) (D.view desk.new) inquirer.old inquirer.new) }
-        ensures err { IfErr result (SettleStops (file self.old) (keeps self.old) (D.view desk.old) (D.view desk.new) inquirer.old) }
+        ensures ok { OnOk result (SettleMore (file self.old) (keeps self.old) (asks self.old) (told self.new) (D.view desk.old) (D.view desk.new) inquirer.old inquirer.new) }
+        ensures err { IfErr result (SettleStops (file self.old) (keeps self.old) (asks self.old) (D.view desk.old) (D.view desk.new) inquirer.old) }
         ensures grows { Grows (D.view desk.old) (D.view desk.new) };
 }

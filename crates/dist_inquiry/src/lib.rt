@@ -15,4 +15,4 @@ mod words;
 pub use asker::Inquirer;
 pub use file::write_inquiry;
 pub use inquiring::Inquiring;
-pub use noting::ask_and_note;
+pub use noting::{ask_and_note, refute_and_note};

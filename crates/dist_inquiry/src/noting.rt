@@ -1,13 +1,14 @@
 //! What questions find, noted by the kind of file.
-ghost use Rattle.std.specs.Prelude.{◌≡◌, ◌≤◌, IfErr, IfOk};
+ghost use Rattle.std.specs.Prelude.{◌≡◌, ◌≤◌, ◌↔◌, IfErr, IfOk, IsFalse, IsTrue};
 ghost use Rattle.dist_outside.specs.Files.{IsWriting};
 ghost use Rattle.dist_cert.specs.Form.{AreLiterals};
 ghost use Rattle.dist_findings.specs.Findings.{IsFormed};
+ghost use Rattle.dist_solver.specs.declared.answers.Answer.TheVariants as answers;
 ghost use Rattle.dist_sweep.specs.Asking.{IsOver};
 ghost use Rattle.dist_sweep.specs.Script.{Grows};
 ghost use Rattle.dist_sweep.specs.Words.{IsAnswerOver};
 ghost use Rattle.dist_inquiry.specs.AnswerText.{NoteMore, finding_of};
-ghost use Rattle.dist_inquiry.specs.Asking.{AskStops};
+ghost use Rattle.dist_inquiry.specs.Asking.{AreRefuted, AskStops};
 
 use crate::asker::Inquirer;
 use dist_cert::Items;
@@ -70,4 +71,33 @@ pub fn ask_and_note<D: Desk, A: Answering>(
     let finding = finding_of(alloc, question, &answer, variables)?;
     answering.note(notes, finding)?;
     Ok(answer)
+}
+
+/// Writes a question that these hints refute, with its answer, and notes it, where they do. The solver isn't asked.
+pub fn refute_and_note<D: Desk, A: Answering>(
+    alloc: Global,
+    answering: &A,
+    inquirer: &mut Inquirer,
+    notes: &mut A::Notes,
+    desk: &mut D,
+    question: &[(u32, bool)],
+    hints: &[u32],
+) -> Result<bool, WorkError>
+    requires writing { IsWriting (D.view desk.old).mode }
+    requires question { IsOver inquirer.old.log.variables question.now }
+    ensures exactly { IfOk result (λ yes. IsTrue yes ↔ AreRefuted inquirer.old.log question.now hints.now) }
+    ensures ok { IfOk result (λ yes. IsTrue yes
+        → NoteMore (A.noted answering.now) (D.view desk.old) (D.view desk.new) inquirer.old inquirer.new notes.old notes.new question.now (answers.Refuted hints.now)) }
+    ensures none { IfOk result (λ yes. IsFalse yes → (desk.new ≡ desk.old) × (inquirer.new ≡ inquirer.old) × (notes.new ≡ notes.old)) }
+    ensures err { IfErr result (AskStops inquirer.old question.now (D.view desk.old) (D.view desk.new)) }
+    ensures rest { inquirer.new ≡ record inquirer.old { writer = inquirer.new.writer } }
+    ensures grows { Grows (D.view desk.old) (D.view desk.new) }
+{
+    file_grows();
+    if !inquirer.refute(desk, question, hints)? {
+        return Ok(false);
+    }
+    let literals = question.to_vec(alloc)?;
+    answering.note(notes, Finding::Refuted(Items::from_vec(literals)))?;
+    Ok(true)
 }
