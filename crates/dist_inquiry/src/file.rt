@@ -28,7 +28,7 @@ fn put_all<S: Inquiring, D: Desk>(
     requires one_line { IsOneLine line.now }
     requires front { IsOneLine (S.file search.old).front }
     ensures ok { OnOk result ((numbers : List ℕ) → line.now ≡ first_line (S.file search.old).front numbers
-        → InquiryMore (S.file search.old) (S.keeps search.old) (S.asks search.old) (S.told search.new) numbers (D.view desk.old) (D.view desk.new) inquirer.old) }
+        → InquiryMore (S.file search.old) (S.keeps search.old) (S.asks search.old) (S.told search.old search.new) numbers (D.view desk.old) (D.view desk.new) inquirer.old) }
     ensures err { IfErr result (λ error. (numbers : List ℕ) → line.now ≡ first_line (S.file search.old).front numbers
         → InquiryStops (S.file search.old) (S.keeps search.old) (S.asks search.old) numbers (D.view desk.old) (D.view desk.new) inquirer.old error) }
     ensures grows { Grows (D.view desk.old) (D.view desk.new) }
@@ -94,7 +94,7 @@ pub fn write_inquiry<S: Inquiring, D: Desk>(
     requires limit { 1 ≤ inquirer.old.limit }
     requires fits { S.fits search.old inquirer.old.log.variables }
     requires nothing { inquirer.old.writer.written ≡ 0 }
-    ensures { InquiryAnswers (S.file search.old) (S.keeps search.old) (S.asks search.old) (S.told search.new) numbers.now inquirer.old name.now (D.view desk.old) (D.view desk.new) result }
+    ensures { InquiryAnswers (S.file search.old) (S.keeps search.old) (S.asks search.old) (S.told search.old search.new) numbers.now inquirer.old name.now (D.view desk.old) (D.view desk.new) result }
 {
     file_holds();
     let line = first_text(alloc, search, numbers)?;

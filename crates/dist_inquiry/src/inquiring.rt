@@ -22,8 +22,8 @@ pub trait Inquiring {
     /// Which questions it asks behind a first line of these numbers and some lines.
     ghost asks: { Self → (numbers : List ℕ) → Asks };
 
-    /// The answer that it has come to is what these findings tell.
-    ghost told: { Self → (numbers : List ℕ) → List Finding → Type 0 };
+    /// The answer that it has come to, from what it was before, is what these findings tell.
+    ghost told: { Self → Self → (numbers : List ℕ) → List Finding → Type 0 };
 
     /// It can ask over so many variables.
     ghost fits: { Self → ℕ → Type 0 };
@@ -38,7 +38,7 @@ pub trait Inquiring {
         requires writing { IsWriting (D.view desk.old).mode }
         requires limit { 1 ≤ inquirer.old.limit }
         requires fits { fits self.old inquirer.old.log.variables }
-        ensures ok { OnOk result (SettleMore (file self.old) (keeps self.old) (asks self.old) (told self.new) (D.view desk.old) (D.view desk.new) inquirer.old inquirer.new) }
+        ensures ok { OnOk result (SettleMore (file self.old) (keeps self.old) (asks self.old) (told self.old self.new) (D.view desk.old) (D.view desk.new) inquirer.old inquirer.new) }
         ensures err { IfErr result (SettleStops (file self.old) (keeps self.old) (asks self.old) (D.view desk.old) (D.view desk.new) inquirer.old) }
         ensures grows { Grows (D.view desk.old) (D.view desk.new) };
 }

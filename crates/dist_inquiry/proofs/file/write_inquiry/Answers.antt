@@ -14,7 +14,7 @@ returns-in_err-done g c =
     let new : DeskView = g.D.Desk.view c.close-closed.new.desk in
     let file = g.S.Inquiring.file c.args.search.now in
     let Keeps = g.S.Inquiring.keeps c.args.search.now in
-    let Told = g.S.Inquiring.told c.put_all-done.new.search in
+    let Told = g.S.Inquiring.told c.args.search.now c.put_all-done.new.search in
     let done : IsDone c.args.name.now old mid late new
     = record {
       more = c.file_holds.ensures.more;
@@ -35,7 +35,7 @@ returns g c =
     let new : DeskView = g.D.Desk.view c.close-closed.new.desk in
     let file = g.S.Inquiring.file c.args.search.now in
     let Keeps = g.S.Inquiring.keeps c.args.search.now in
-    let Told = g.S.Inquiring.told c.put_all-done.new.search in
+    let Told = g.S.Inquiring.told c.args.search.now c.put_all-done.new.search in
     let done : IsDone c.args.name.now old mid late new
     = record {
       more = c.file_holds.ensures.more;
