@@ -5,3 +5,4 @@ pub mod Edges
 pub mod AnswerText
 pub mod Written
 pub mod Inquiring
+pub mod StartLaws
