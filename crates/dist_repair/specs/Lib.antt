@@ -8,3 +8,4 @@ pub mod RepairExamples
 pub mod CountedPrivate
 pub mod InputsPrivate
 pub mod NotesPrivate
+pub mod Searched

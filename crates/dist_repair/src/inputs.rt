@@ -27,7 +27,7 @@ pub(crate) fn number_at(numbers: &[u32], place: usize) -> u32
 }
 
 /// The clauses of a space with a counter up to a most behind them, within the limits.
-pub(crate) fn counted_inputs(
+pub fn counted_inputs(
     alloc: Global,
     space: &Space,
     most: u32,

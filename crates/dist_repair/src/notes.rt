@@ -5,7 +5,8 @@ ghost use Rattle.dist_cert.specs.Rising.{AreRising};
 ghost use Rattle.dist_space.specs.Space.{SpaceView};
 ghost use Rattle.dist_findings.specs.Findings.{IsFormed};
 ghost use Rattle.dist_findings.specs.declared.finding.Finding.{Finding};
-ghost use Rattle.dist_repair.specs.Answered.{Asked};
+ghost use Rattle.dist_repair.specs.Answered.{Answers, Asked};
+ghost use Rattle.dist_repair.specs.RepairFiles.{IsDecided};
 ghost use Rattle.dist_repair.specs.declared.TheConstants.{MAX_MOST};
 ghost use Rattle.dist_repair.specs.NotesPrivate.{AreNotesOf, AreWordsOf, NotesLeft, NotesRefuted, answer_of, has_answer, is_at_end, is_fewer, noted_installed, raised};
 
@@ -21,7 +22,7 @@ use std::marker::Model;
 
 /// What is noted of the findings of a file.
 #[derive(Debug, Drop)]
-pub(crate) struct Notes {
+pub struct Notes {
     words: Words,
     /// Whether the question of the package alone is refuted.
     outdated: bool,
@@ -178,8 +179,10 @@ impl Notes {
     }
 
     /// The answer, where there is one.
-    pub(crate) fn answer(self) -> Repair
-        ensures { result ≡ answer_of self }
+    pub fn answer(self) -> Repair
+        ensures value { result ≡ answer_of self }
+        ensures right { (s : SpaceView) (asked : Asked) (found : List Finding) → AreNotesOf s asked found self
+            → IsDecided s asked found → Answers s asked found result }
     {
         let Notes {
             words,
