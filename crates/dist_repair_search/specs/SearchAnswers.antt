@@ -35,8 +35,8 @@ OfRepair s h limits P = (basis : Inputs) × AreCountedInputs s h.most basis
     × P (setting_of (repair_files s) limits basis (first_numbers s h basis))
     (course_of (repair_files s) (repair_asks s) (first_numbers s h basis))
 
--- When each answer is given, and what it leaves of the file. At Ok the file is accepted with this answer and header, and
--- it is whole, in the order of questions. Want of memory may come in place of any answer.
+-- When each answer is given, and what it leaves of the file. At Ok the file is accepted with this answer and header,
+-- and it is whole, in the order of questions. Want of memory may come in place of any answer.
 abbrev pub SearchAnswers : SpaceView → RepairHeader → Limits → (name : List ℕ) → DeskView → DeskView
     → Result Repair WorkError → Type 0
 SearchAnswers s h limits name old new (Ok repair) = (text : List ℕ) × Holds name text Idle old new

@@ -5,7 +5,7 @@
 //! found is noted as the checker notes it (dist_repair), so that the file is accepted with the answer.
 #![tactic(auto)]
 
-mod repair;
+mod file;
 mod search;
 
-pub use repair::repair;
+pub use file::repair;

@@ -22,7 +22,8 @@ together = record {
   meanings = Present 0 ∷ Present 1 ∷ At 0 0 ∷ [];
 }
 
-least_example : repair_text together 0 (Least 1 (true ∷ false ∷ true ∷ [])) ≡ codes "package a=1\nleast 1\nmove a=1 to 2\n"
+least_example : repair_text together 0 (Least 1 (true ∷ false ∷ true ∷ []))
+    ≡ codes "package a=1\nleast 1\nmove a=1 to 2\n"
 unfolding digits
 least_example = refl
 
