@@ -9,3 +9,4 @@ pub mod CountedPrivate
 pub mod InputsPrivate
 pub mod NotesPrivate
 pub mod Searched
+pub mod QuestionLaws

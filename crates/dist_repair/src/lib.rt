@@ -18,7 +18,7 @@ mod words;
 
 pub use checking::check_repair;
 pub use counted::with_counter;
-pub use inputs::counted_inputs;
+pub use inputs::repair_inputs;
 pub use laws::{
     accepted_repairs_hold, counters_count_moves, questions_decide, repairs_have_one_answer,
 };

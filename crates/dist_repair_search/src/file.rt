@@ -11,7 +11,7 @@ use crate::search::RepairSearch;
 use dist_findings::Answering;
 use dist_inquiry::{Inquirer, write_inquiry};
 use dist_outside::{Desk, Limits, WorkError};
-use dist_repair::{Repair, Repairing, accepted_repairs_hold, counted_inputs, words_of};
+use dist_repair::{Repair, Repairing, accepted_repairs_hold, repair_inputs, words_of};
 use dist_space::Space;
 use std::alloc::Global;
 
@@ -40,7 +40,7 @@ pub fn repair<D: Desk>(
     ensures says { IfOk result (AcceptedSays space.now (header_with limit «package» most)) }
 {
     accepted_repairs_hold();
-    let set = counted_inputs(alloc, space, most, limits)?;
+    let set = repair_inputs(alloc, space, most, limits)?;
     let numbers = vec![in alloc; limit, space.package_count(), set.variables(), set.len(), package + 1, most]?;
     let repairing = Repairing { alloc, space };
     let words = words_of(space, &numbers);
