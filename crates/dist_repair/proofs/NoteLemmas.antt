@@ -85,7 +85,7 @@ module _ (s : SpaceView) (asked : Asked) where
   asks-alone w are question is = is ∙ sym (ap (λ (v : ℕ). yes v ∷ []) are.own_is)
 
   -- the two forms of a question at j
-  front-same : (w : WordsView) → AreWordsOf s asked w → (j : ℕ)
+  pub front-same : (w : WordsView) → AreWordsOf s asked w → (j : ℕ)
       → (yes w.own ∷ no (w.first + j) ∷ []) ≡ (yes (own s asked) ∷ no (beyond s asked j) ∷ [])
   front-same w are j = ap₂ (λ (v u : ℕ). yes v ∷ no u ∷ []) are.own_is (at-word w are j)
 

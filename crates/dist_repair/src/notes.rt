@@ -178,11 +178,9 @@ impl Notes {
         }
     }
 
-    /// The answer, where there is one.
-    pub fn answer(self) -> Repair
-        ensures value { result ≡ answer_of self }
-        ensures right { (s : SpaceView) (asked : Asked) (found : List Finding) → AreNotesOf s asked found self
-            → IsDecided s asked found → Answers s asked found result }
+    /// The answer that is noted.
+    fn noted_answer(self) -> Repair
+        ensures { result ≡ answer_of self }
     {
         let Notes {
             words,
@@ -204,5 +202,14 @@ impl Notes {
             }
             None => Repair::AtLeast(lower, true, None),
         }
+    }
+
+    /// The answer, where there is one.
+    pub fn answer(self) -> Repair
+        ensures value { result ≡ answer_of self }
+        ensures right { (s : SpaceView) (asked : Asked) (found : List Finding) → AreNotesOf s asked found self
+            → IsDecided s asked found → Answers s asked found result }
+    {
+        self.noted_answer()
     }
 }
