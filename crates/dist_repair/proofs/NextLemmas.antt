@@ -31,7 +31,7 @@ module _ (s : SpaceView) (asked : Asked) where
   lower-up found question j upto asks low = subst (IsLower s asked (found ++ Refuted question ∷ []))
       (cond-false (nat_lt j j) j (j + 1) (le-ltb j j (omega arith))) (lower-raised s asked found question j j upto asks low)
 
-  begun-more : (found : List Finding) (f : Finding) → IsBegun s asked found → IsBegun s asked (found ++ f ∷ [])
+  pub begun-more : (found : List Finding) (f : Finding) → IsBegun s asked found → IsBegun s asked (found ++ f ∷ [])
   begun-more found f (inl is) = inl (is.0, is.1, Contains-append_left found (f ∷ []) (Refuted is.0) is.2)
   begun-more found f (inr (inl is)) = inr (inl (is.0, is.1, Contains-append_left found (f ∷ []) (LeftUndecided is.0) is.2))
   begun-more found f (inr (inr is)) = inr (inr (

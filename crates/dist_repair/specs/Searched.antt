@@ -36,7 +36,8 @@ NextDecides s clauses = (asked : Asked) (limit : ℕ) (found : List Finding) (f 
     → asked.number < length s.repository.packages
     → All (IsSound (counted_clauses s clauses asked.most) limit) (found ++ f ∷ [])
     → AreNotesOf s asked (found ++ f ∷ []) n → IsBegun s asked found → IsLower s asked found j → j ≤ asked.most
-    → IsFoundAt s asked j f → IsDecided s asked (found ++ f ∷ []) ⊎ IsLower s asked (found ++ f ∷ []) (j + 1)
+    → IsFoundAt s asked j f → IsBegun s asked (found ++ f ∷ [])
+    × (IsDecided s asked (found ++ f ∷ []) ⊎ IsLower s asked (found ++ f ∷ []) (j + 1))
 
 -- Once all questions up to the most are refuted, the answer is decided.
 abbrev pub LastDecides : SpaceView → Type 0
