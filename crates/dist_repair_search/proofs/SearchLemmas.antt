@@ -1,9 +1,12 @@
 -- All questions, one after another, and the file that they make.
-use Rattle.std.proofs.Common.{◌≡◌, inl, inr, ℕ, ◌+◌, ◌<◌, ◌≤◌, List, [], ◌∷◌, ◌++◌, refl, sym, ap, subst, ◌∙◌, arith, append_assoc, append-nil}
+use Rattle.std.proofs.Common.{◌≡◌, ◌≢◌, inl, inr, ℕ, ◌+◌, ◌<◌, ◌≤◌, List, [], ◌∷◌, ◌++◌, refl, sym, ap, subst, ◌∙◌, arith, append_assoc, append-nil}
 use Rattle.std.specs.Prelude.{All}
-use Rattle.std.proofs.lemmas.List.Elements.{All-nil}
+use Rattle.std.proofs.lemmas.List.Elements.{All-cons, All-nil}
+use Rattle.dist_clause.specs.Formula.{Literal}
 use Rattle.dist_cert.specs.FileLines.{lines_text}
+use Rattle.dist_cert.specs.ClaimRules.{no, yes}
 use Rattle.dist_cert.specs.Form.{Word}
+use Rattle.dist_cert.specs.ListLaws.{contains-cases}
 use Rattle.dist_cert.specs.declared.records.CertRecord.{CertRecord}
 use Rattle.dist_findings.specs.AnswerFiles.{Inputs}
 use Rattle.dist_findings.specs.Findings.{findings, findings_behind}
@@ -11,7 +14,7 @@ use Rattle.dist_findings.specs.SoundLaws.{IsSound}
 use Rattle.dist_findings.specs.declared.finding.Finding.{Finding}
 use Rattle.dist_inquiry.specs.AnswerText.{NoteMore}
 use Rattle.dist_inquiry.specs.Asking.{AskStops}
-use Rattle.dist_inquiry.specs.Inquiring.{MaySettle, IsSettled}
+use Rattle.dist_inquiry.specs.Inquiring.{MaySettle, SettleMore, SettleStops}
 use Rattle.dist_inquiry.specs.Inquiry.{Setting, Stops}
 use Rattle.dist_inquiry.specs.InquiryLaws.{stops-after}
 use Rattle.dist_outside.specs.DeskView.{DeskView, FileGrew}
@@ -22,14 +25,52 @@ use Rattle.dist_repair.specs.NotesPrivate.{AreNotesOf, AreWordsOf, NotesView, Wo
 use Rattle.dist_repair.specs.RepairFiles.{IsDecided, asked_by, most_of, repair_files}
 use Rattle.dist_repair.specs.Searched.{LastDecides, NextDecides}
 use Rattle.dist_solver.specs.declared.answers.Answer.{Answer}
+use Rattle.dist_space.specs.RisingLaws.{pairs-cons, pairs-none}
 use Rattle.dist_space.specs.Space.{IsSpace, SpaceView}
 use Rattle.dist_space_clauses.specs.SpaceClauses.{AreSpaceClauses}
-use Rattle.dist_sweep.specs.Asking.{AskerView}
+use Rattle.dist_sweep.specs.Asking.{AskerView, IsOver}
 use Rattle.dist_sweep.specs.ScriptLaws.{TwiceLaw, lines-more}
 use Rattle.dist_repair_search.specs.QuestionOrder.{repair_asks}
-use Rattle.dist_repair_search.specs.SearchPrivate.{AloneMore, AloneStops, AreRight, ComesTo, IsSearched, IsWrittenAt, NextMore, NextStops, SearchMore}
-use Rattle.dist_repair_search.specs.SearchPrivate.{StandsAt, setting_at}
+use Rattle.dist_repair_search.specs.SearchPrivate.{AloneMore, AloneStops, AreOver, AreRight, ComesTo, IsSearched, IsWrittenAt, NextMore, NextStops}
+use Rattle.dist_repair_search.specs.SearchPrivate.{SearchMore, StandsAt, setting_at}
 use Rattle.dist_repair_search.proofs.StepLemmas.{after-alone, after-at, noting, stops-alone, stops-at}
+
+-- ---- the questions are over the variables
+
+pub alone-over : (n : ℕ) (w : WordsView) (question : List Word) → AreOver n w → question ≡ yes w.own ∷ [] → IsOver n question
+alone-over n w question over is =
+    let from = over.from_one in
+    let apart = over.apart in
+    let upto = over.upto in
+    subst (IsOver n) (sym is) (record {
+      some = omega arith;
+      form = (
+        All-cons (λ l. 1 ≤ l.0) (yes w.own) [] from (All-nil (λ l. 1 ≤ l.0)),
+        pairs-cons (λ (l m : Word). l.0 ≢ m.0) (yes w.own) [] (λ y there. absurd (omega (arith, there.1))) (pairs-none (λ (l m : Word). l.0 ≢ m.0)),
+      );
+      upto = All-cons (λ l. l.0 ≤ n) (yes w.own) [] (omega (arith, apart, upto)) (All-nil (λ l. l.0 ≤ n));
+    })
+
+pub at-over : (n : ℕ) (w : WordsView) (j : ℕ) (question : List Word) → AreOver n w → j ≤ w.most
+    → question ≡ yes w.own ∷ no (w.first + j) ∷ [] → IsOver n question
+at-over n w j question over within is =
+    let from = over.from_one in
+    let apart = over.apart in
+    let upto = over.upto in
+    subst (IsOver n) (sym is) (record {
+      some = omega arith;
+      form = (
+        All-cons (λ l. 1 ≤ l.0) (yes w.own) (no (w.first + j) ∷ []) from
+            (All-cons (λ l. 1 ≤ l.0) (no (w.first + j)) [] (omega (arith, from, apart)) (All-nil (λ l. 1 ≤ l.0))),
+        pairs-cons (λ (l m : Word). l.0 ≢ m.0) (yes w.own) (no (w.first + j) ∷ []) (λ y there. elim (contains-cases (no (w.first + j)) [] y there) [
+          | inl here ↦ λ same. let other = ap (λ (x : Word). x.0) here in omega (arith, same, other, apart)
+          | inr none ↦ absurd (omega (arith, none.1))
+        ]) (pairs-cons (λ (l m : Word). l.0 ≢ m.0) (no (w.first + j)) [] (λ y there. absurd (omega (arith, there.1)))
+            (pairs-none (λ (l m : Word). l.0 ≢ m.0))),
+      );
+      upto = All-cons (λ l. l.0 ≤ n) (yes w.own) (no (w.first + j) ∷ []) (omega (arith, apart, upto))
+          (All-cons (λ l. l.0 ≤ n) (no (w.first + j)) [] (omega (arith, within, upto)) (All-nil (λ l. l.0 ≤ n)));
+    })
 
 -- ---- one question
 
@@ -49,7 +90,7 @@ module _ (s : SpaceView) (space : IsSpace s) (w : WordsView) (question : List Wo
     upto : (numbers : List ℕ) → AreWordsOf s (asked_by numbers) w → j ≤ most_of numbers
     upto numbers words = let most = words.most_is in omega (arith, within, most)
 
-    pub next-more : ((clauses : _) → AreSpaceClauses s clauses → NextDecides s clauses) → (b : AskerView) (m : NotesView) (answer : Answer)
+    pub next-more : ((clauses : List (List Literal)) → AreSpaceClauses s clauses → NextDecides s clauses) → (b : AskerView) (m : NotesView) (answer : Answer)
         → NoteMore (noting s) old new a b n m question answer → NextMore s w j n m old new a b
     next-more law b m answer more limits numbers basis lines right stands open_still =
         after-at s space limits numbers basis w right lines j a n stands open_still (upto numbers right.words) question (asks (asked_by numbers) right.words)
@@ -63,26 +104,26 @@ module _ (s : SpaceView) (space : IsSpace s) (w : WordsView) (question : List Wo
 
 -- ---- all questions
 
-module _ (twice : TwiceLaw) (s : SpaceView) (w : WordsView) (n : NotesView) (old : DeskView) (a : AskerView) where
-  -- the search has come to a number
-  abbrev pub SearchTo : (j : ℕ) → NotesView → DeskView → AskerView → Type 0
-  SearchTo j m mid b = (limits : Limits) (numbers : List ℕ) (basis : Inputs) → AreRight s limits numbers basis w
-      → IsWrittenAt s limits numbers basis [] a n → ComesTo s limits numbers basis [] j old mid b m
+-- the search has come to a number
+abbrev pub SearchTo : SpaceView → WordsView → NotesView → DeskView → AskerView → (j : ℕ) → NotesView → DeskView → AskerView → Type 0
+SearchTo s w n old a j m mid b = (limits : Limits) (numbers : List ℕ) (basis : Inputs) → AreRight s limits numbers basis w
+    → IsWrittenAt s limits numbers basis [] a n → ComesTo s limits numbers basis [] j old mid b m
 
-  pub comes-further : (j : ℕ) (m l : NotesView) (mid new : DeskView) (b d : AskerView) → SearchTo j m mid b → NextMore s w j m l mid new b d
+module _ (twice : TwiceLaw) (s : SpaceView) (w : WordsView) (n : NotesView) (old : DeskView) (a : AskerView) where
+  pub comes-further : (j : ℕ) (m l : NotesView) (mid new : DeskView) (b d : AskerView) → SearchTo s w n old a j m mid b → NextMore s w j m l mid new b d
       → ((numbers : List ℕ) (found : List Finding) → AreNotesOf s (asked_by numbers) found m → ¬ IsDecided s (asked_by numbers) found)
-      → SearchTo (j + 1) l new d
+      → SearchTo s w n old a (j + 1) l new d
   comes-further j m l mid new b d to next undecided limits numbers basis right written =
       let first = to limits numbers basis right written in
-      let then = next limits numbers basis first.more right first.stands (undecided numbers (findings first.more) first.stands.written.noted) in
+      let second = next limits numbers basis first.more right first.stands (undecided numbers (findings first.more) first.stands.written.noted) in
       record {
-        more = first.more ++ then.more;
-        grew = subst (λ (bytes : List ℕ). FileGrew bytes old new) (sym (lines-more first.more then.more))
-            (twice (lines_text first.more) (lines_text then.more) old mid new first.grew then.grew);
-        stands = then.stands;
+        more = first.more ++ second.more;
+        grew = subst (λ (bytes : List ℕ). FileGrew bytes old new) (sym (lines-more first.more second.more))
+            (twice (lines_text first.more) (lines_text second.more) old mid new first.grew second.grew);
+        stands = second.stands;
       }
 
-  pub stops-further : (j : ℕ) (m : NotesView) (mid new : DeskView) (b : AskerView) (error : WorkError) → SearchTo j m mid b
+  pub stops-further : (j : ℕ) (m : NotesView) (mid new : DeskView) (b : AskerView) (error : WorkError) → SearchTo s w n old a j m mid b
       → NextStops s w j m mid new b error
       → ((numbers : List ℕ) (found : List Finding) → AreNotesOf s (asked_by numbers) found m → ¬ IsDecided s (asked_by numbers) found)
       → AloneStops s w n old new a error
@@ -93,7 +134,7 @@ module _ (twice : TwiceLaw) (s : SpaceView) (w : WordsView) (n : NotesView) (old
       (next limits numbers basis first.more right first.stands (undecided numbers (findings first.more) first.stands.written.noted))
 
   -- it ends where the answer is decided
-  pub ends-decided : (j : ℕ) (m : NotesView) (mid : DeskView) (b : AskerView) → SearchTo j m mid b
+  pub ends-decided : (j : ℕ) (m : NotesView) (mid : DeskView) (b : AskerView) → SearchTo s w n old a j m mid b
       → ((numbers : List ℕ) (found : List Finding) → AreNotesOf s (asked_by numbers) found m → IsDecided s (asked_by numbers) found)
       → SearchMore s w n m old mid a b
   ends-decided j m mid b to decided limits numbers basis right written =
@@ -106,7 +147,7 @@ module _ (twice : TwiceLaw) (s : SpaceView) (w : WordsView) (n : NotesView) (old
       }
 
   -- or at the most
-  pub ends-last : LastDecides s → (j : ℕ) (m : NotesView) (mid : DeskView) (b : AskerView) → SearchTo j m mid b → j ≡ w.most + 1
+  pub ends-last : LastDecides s → (j : ℕ) (m : NotesView) (mid : DeskView) (b : AskerView) → SearchTo s w n old a j m mid b → j ≡ w.most + 1
       → SearchMore s w n m old mid a b
   ends-last law j m mid b to last limits numbers basis right written =
       let first = to limits numbers basis right written in
@@ -136,3 +177,26 @@ begins s limits numbers basis Keeps a n may noted = record {
   asked = tt;
   sound = All-nil (IsSound basis.clauses 0);
 }
+
+module _ (s : SpaceView) (w : WordsView) (n : NotesView) (old new : DeskView) (a : AskerView) where
+  -- what a search keeps, and what it tells
+  abbrev pub KeepsAt : List ℕ → Type 0
+  KeepsAt numbers = AreWordsOf s (asked_by numbers) w × AreNotesOf s (asked_by numbers) [] n
+
+  pub settles : (m : NotesView) (b : AskerView) → SearchMore s w n m old new a b
+      → SettleMore (repair_files s) KeepsAt (repair_asks s) (λ numbers found. AreNotesOf s (asked_by numbers) found m) old new a b
+  settles m b more limits numbers basis may =
+      let done = more limits numbers basis (record { right = may.right; words = may.keeps.0 })
+      (begins s limits numbers basis KeepsAt a n may may.keeps.1) in
+      record {
+        lines = done.lines;
+        grew = done.grew;
+        at = done.written.at;
+        asked = done.written.asked;
+        decided = done.decided;
+        told = done.written.noted;
+      }
+
+  pub settle-stops : (error : WorkError) → AloneStops s w n old new a error → SettleStops (repair_files s) KeepsAt (repair_asks s) old new a error
+  settle-stops error stops limits numbers basis may =
+      stops limits numbers basis (record { right = may.right; words = may.keeps.0 }) (begins s limits numbers basis KeepsAt a n may may.keeps.1)
