@@ -6,9 +6,10 @@ use Rattle.dist_space.specs.Space.{SpaceView}
 use Rattle.dist_findings.specs.SoundLaws.{IsSound}
 use Rattle.dist_findings.specs.declared.finding.Finding.{Finding}
 use Rattle.dist_findings.specs.declared.finding.Finding.TheVariants.{Refuted, LeftUndecided, Installed}
-use Rattle.dist_repair.specs.Answered.{Asked, AsksAlone, AsksAt, IsLeft, IsLower, IsRefuted, beyond, installed, own}
+use Rattle.dist_repair.specs.Answered.{Answers, Asked, AsksAlone, AsksAt, IsLeft, IsLower, IsRefuted, beyond, installed}
+use Rattle.dist_repair.specs.Answered.{own}
 use Rattle.dist_repair.specs.Counters.{counted_clauses}
-use Rattle.dist_repair.specs.NotesPrivate.{AreNotesOf, NotesView}
+use Rattle.dist_repair.specs.NotesPrivate.{AreNotesOf, NotesView, answer_of}
 use Rattle.dist_repair.specs.RepairFiles.{IsDecided}
 
 -- the question of the package alone is closed, or an installation has the package
@@ -38,6 +39,11 @@ NextDecides s clauses = (asked : Asked) (limit : ℕ) (found : List Finding) (f 
     → AreNotesOf s asked (found ++ f ∷ []) n → IsBegun s asked found → IsLower s asked found j → j ≤ asked.most
     → IsFoundAt s asked j f → IsBegun s asked (found ++ f ∷ [])
     × (IsDecided s asked (found ++ f ∷ []) ⊎ IsLower s asked (found ++ f ∷ []) (j + 1))
+
+-- Notes of findings that decide an answer have this one.
+abbrev pub NotesAnswer : SpaceView → Type 0
+NotesAnswer s = (asked : Asked) (found : List Finding) (n : NotesView) → AreNotesOf s asked found n
+    → IsDecided s asked found → Answers s asked found (answer_of n)
 
 -- Once all questions up to the most are refuted, the answer is decided.
 abbrev pub LastDecides : SpaceView → Type 0

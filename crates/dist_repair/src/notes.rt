@@ -5,8 +5,7 @@ ghost use Rattle.dist_cert.specs.Rising.{AreRising};
 ghost use Rattle.dist_space.specs.Space.{SpaceView};
 ghost use Rattle.dist_findings.specs.Findings.{IsFormed};
 ghost use Rattle.dist_findings.specs.declared.finding.Finding.{Finding};
-ghost use Rattle.dist_repair.specs.Answered.{Answers, Asked};
-ghost use Rattle.dist_repair.specs.RepairFiles.{IsDecided};
+ghost use Rattle.dist_repair.specs.Answered.{Asked};
 ghost use Rattle.dist_repair.specs.declared.TheConstants.{MAX_MOST};
 ghost use Rattle.dist_repair.specs.NotesPrivate.{AreNotesOf, AreWordsOf, NotesLeft, NotesRefuted, answer_of, has_answer, is_at_end, is_fewer, noted_installed, raised};
 
@@ -178,8 +177,8 @@ impl Notes {
         }
     }
 
-    /// The answer that is noted.
-    fn noted_answer(self) -> Repair
+    /// The answer, where there is one.
+    pub fn answer(self) -> Repair
         ensures { result ≡ answer_of self }
     {
         let Notes {
@@ -202,14 +201,5 @@ impl Notes {
             }
             None => Repair::AtLeast(lower, true, None),
         }
-    }
-
-    /// The answer, where there is one.
-    pub fn answer(self) -> Repair
-        ensures value { result ≡ answer_of self }
-        ensures right { (s : SpaceView) (asked : Asked) (found : List Finding) → AreNotesOf s asked found self
-            → IsDecided s asked found → Answers s asked found result }
-    {
-        self.noted_answer()
     }
 }

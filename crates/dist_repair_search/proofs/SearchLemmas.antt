@@ -20,10 +20,10 @@ use Rattle.dist_inquiry.specs.InquiryLaws.{stops-after}
 use Rattle.dist_outside.specs.DeskView.{DeskView, FileGrew}
 use Rattle.dist_outside.specs.declared.limits.Limits.{Limits}
 use Rattle.dist_outside.specs.declared.trouble.WorkError.{WorkError}
-use Rattle.dist_repair.specs.Answered.{Asked, AsksAlone, AsksAt, IsLower}
-use Rattle.dist_repair.specs.NotesPrivate.{AreNotesOf, AreWordsOf, NotesView, WordsView}
+use Rattle.dist_repair.specs.Answered.{Answers, Asked, AsksAlone, AsksAt, IsLower}
+use Rattle.dist_repair.specs.NotesPrivate.{AreNotesOf, AreWordsOf, NotesView, WordsView, answer_of}
 use Rattle.dist_repair.specs.RepairFiles.{IsDecided, asked_by, most_of, repair_files}
-use Rattle.dist_repair.specs.Searched.{LastDecides, NextDecides}
+use Rattle.dist_repair.specs.Searched.{LastDecides, NextDecides, NotesAnswer}
 use Rattle.dist_solver.specs.declared.answers.Answer.{Answer}
 use Rattle.dist_space.specs.RisingLaws.{pairs-cons, pairs-none}
 use Rattle.dist_space.specs.Space.{IsSpace, SpaceView}
@@ -183,9 +183,9 @@ module _ (s : SpaceView) (w : WordsView) (n : NotesView) (old new : DeskView) (a
   abbrev pub KeepsAt : List ℕ → Type 0
   KeepsAt numbers = AreWordsOf s (asked_by numbers) w × AreNotesOf s (asked_by numbers) [] n
 
-  pub settles : (m : NotesView) (b : AskerView) → SearchMore s w n m old new a b
-      → SettleMore (repair_files s) KeepsAt (repair_asks s) (λ numbers found. AreNotesOf s (asked_by numbers) found m) old new a b
-  settles m b more limits numbers basis may =
+  pub settles : NotesAnswer s → (m : NotesView) (b : AskerView) → SearchMore s w n m old new a b
+      → SettleMore (repair_files s) KeepsAt (repair_asks s) (λ numbers found. Answers s (asked_by numbers) found (answer_of m)) old new a b
+  settles law m b more limits numbers basis may =
       let done = more limits numbers basis (record { right = may.right; words = may.keeps.0 })
       (begins s limits numbers basis KeepsAt a n may may.keeps.1) in
       record {
@@ -194,7 +194,7 @@ module _ (s : SpaceView) (w : WordsView) (n : NotesView) (old new : DeskView) (a
         at = done.written.at;
         asked = done.written.asked;
         decided = done.decided;
-        told = done.written.noted;
+        told = law (asked_by numbers) (findings done.lines) m done.written.noted done.decided;
       }
 
   pub settle-stops : (error : WorkError) → AloneStops s w n old new a error → SettleStops (repair_files s) KeepsAt (repair_asks s) old new a error

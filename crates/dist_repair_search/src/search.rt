@@ -113,7 +113,8 @@ fn ask_all<D: Desk>(
 
 impl<'a> Inquiring for RepairSearch<'a> {
     ghost use Rattle.std.specs.Prelude.{◌≡◌, []};
-    ghost use Rattle.dist_repair.specs.NotesPrivate.{AreNotesOf, AreWordsOf};
+    ghost use Rattle.dist_repair.specs.Answered.{Answers};
+    ghost use Rattle.dist_repair.specs.NotesPrivate.{AreNotesOf, AreWordsOf, answer_of};
     ghost use Rattle.dist_repair.specs.RepairFiles.{asked_by, repair_files};
     ghost use Rattle.dist_repair_search.specs.QuestionOrder.{repair_asks};
     ghost use Rattle.dist_repair_search.specs.SearchPrivate.{AreOver};
@@ -125,7 +126,7 @@ impl<'a> Inquiring for RepairSearch<'a> {
 
     ghost asks = { λ s numbers. repair_asks s.repairing.space.now numbers };
 
-    ghost told = { λ before after numbers found. AreNotesOf before.repairing.space.now (asked_by numbers) found after.notes };
+    ghost told = { λ before after numbers found. Answers before.repairing.space.now (asked_by numbers) found (answer_of after.notes) };
 
     ghost fits = { λ s n. AreOver n s.words };
 
@@ -134,6 +135,7 @@ impl<'a> Inquiring for RepairSearch<'a> {
     }
 
     fn settle<D: Desk>(&mut self, inquirer: &mut Inquirer, desk: &mut D) -> Result<(), WorkError> {
+        questions_decide();
         ask_all(
             &self.repairing,
             &self.words,

@@ -1,4 +1,5 @@
 use Rattle.dist_base.specs.ListLaws.{element-at}
+use Rattle.dist_repair.proofs.AnswerLemmas.{answer-decides, answer-right}
 use Rattle.dist_repair.proofs.NextLemmas.{begun-more, last-decides, next-decides}
 use Rattle.dist_repair.proofs.OverLemmas.{space-over}
 use Rattle.dist_repair.proofs.laws.questions_decide.Goals as goal
@@ -12,3 +13,6 @@ returns-clause-next c = λ s clauses space are asked limit found f j n short sou
 
 pub returns-clause-last : goal.returns-clause-last
 returns-clause-last c = λ s asked found n are begun low. last-decides s asked found n are begun low
+
+pub returns-clause-answer : goal.returns-clause-answer
+returns-clause-answer c = λ s asked found n are decided. answer-right s asked found n are ((answer-decides s asked found n are).1 decided)

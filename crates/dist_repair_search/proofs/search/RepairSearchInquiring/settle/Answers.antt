@@ -1,10 +1,15 @@
-use Rattle.std.proofs.Common.{List, ℕ, sym, subst}
-use Rattle.dist_findings.specs.declared.finding.Finding.{Finding}
-use Rattle.dist_repair_search.proofs.SearchLemmas.{settles, settle-stops}
+use Rattle.std.proofs.Common.{Result, IfErr, OnOk}
+use Rattle.std.proofs.lemmas.Result.{on_ok_weaker}
+use Rattle.dist_outside.specs.DeskView.{DeskView}
+use Rattle.dist_repair_search.proofs.SearchLemmas.{settle-stops, settles}
 use Rattle.dist_repair_search.proofs.search.RepairSearchInquiring.settle.Goals as goal
 
 pub returns-clause-ok : goal.returns-clause-ok
-returns-clause-ok g c = ?
+returns-clause-ok g c =
+    let s = c.args.self.now.repairing.space.now in
+    on_ok_weaker c.ask_all.result
+    (settles s c.args.self.now.words c.args.self.now.notes (g.D.Desk.view c.args.desk.now) (g.D.Desk.view c.ask_all.new.desk) c.args.inquirer.now
+    (c.questions_decide.ensures.answer s) c.ask_all.new.notes c.ask_all.new.inquirer) c.ask_all.ensures.ok
 
 pub returns-clause-err : goal.returns-clause-err
 returns-clause-err g c = ?
