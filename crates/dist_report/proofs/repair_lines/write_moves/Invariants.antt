@@ -6,4 +6,4 @@ use Rattle.dist_report.proofs.repair_lines.write_moves.Given as goal
 
 abbrev pub invariant-loop-cluster : goal.invariant-loop-cluster
 invariant-loop-cluster l = l.out.items
-    ≡ l.initial.out.items ++ flat_map (cluster_move l.space (value_of l.values)) (take l.cluster (range_with_len 0 (length l.space.clusters.members)))
+    ≡ l.fn.out.items ++ flat_map (cluster_move l.space (value_of l.values)) (take l.cluster (range_with_len 0 (length l.space.clusters.members)))
