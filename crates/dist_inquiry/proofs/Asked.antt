@@ -1,33 +1,30 @@
 -- A question with all its lines.
-use Rattle.std.proofs.Common.{◌≡◌, ◌≢◌, ℕ, ◌<◌, ◌≤◌, ◌^◌, ◌++◌, ◌+◌, Bool, false, true, not, inl, inr, map, List, [], ◌∷◌, length, refl, ap, sym, subst, ◌∙◌, append_assoc, append-nil, arith}
+use Rattle.std.proofs.Common.{◌≡◌, ◌≢◌, ℕ, ◌<◌, ◌≤◌, ◌^◌, ◌++◌, Bool, false, List, [], ◌∷◌, length, refl, ap, sym, subst, ◌∙◌, append_assoc, append-nil, arith}
 use Rattle.std.proofs.Common.{Ok}
 use Rattle.std.specs.List.{All, list_any}
-use Rattle.std.proofs.lemmas.List.Elements.{All-head, All-map, All-tail}
-use Rattle.dist_base.specs.ListLaws.{any-cases}
-use Rattle.dist_derive.specs.Follows.{Follows}
-use Rattle.dist_clause.specs.Formula.{Literal, literal, IsClauseOver, IsModel, IsTrueLiteral, MakesTrue, negation, value_of}
+use Rattle.std.proofs.lemmas.List.Elements.{All-map}
+use Rattle.dist_clause.specs.Formula.{Literal, literal, IsClauseOver, IsModel, value_of}
 use Rattle.dist_derive.specs.ClauseLog.{ClauseLog, inputs_of}
 use Rattle.dist_outside.specs.DeskView.{DeskView, FileGrew}
 use Rattle.dist_outside.specs.declared.trouble.WorkError.{WorkError}
 use Rattle.dist_outside.specs.declared.trouble.WorkError.TheVariants.{NoMemory}
-use Rattle.dist_solver.specs.Ask.{IsAnswer, IsRefutation}
+use Rattle.dist_solver.specs.Ask.{IsAnswer}
 use Rattle.dist_solver.specs.declared.answers.Answer.{Answer}
 use Rattle.dist_solver.specs.declared.answers.Answer.TheVariants as answers
 use Rattle.dist_cert.specs.declared.records.CertRecord.{CertRecord}
 use Rattle.dist_cert.specs.declared.records.CertRecord.TheVariants.{Question}
-use Rattle.dist_cert.specs.Form.{AreFromOne, Word, record_text, is_end}
+use Rattle.dist_cert.specs.Form.{Word, record_text, is_end}
 use Rattle.dist_cert.specs.Groups.{clause_of, derived, derived_in}
 use Rattle.dist_cert.specs.FileLines.{lines_text}
 use Rattle.dist_cert.specs.Writing.{WriterView, ended}
 use Rattle.dist_inquiry.specs.Asking.{AskMore, AskStops, IsAt, IsLogAt, MayDerive, Says}
 use Rattle.dist_sweep.specs.Asking.{AskerView, IsOver}
-use Rattle.dist_inquiry.specs.Inquiry.{IsLine, Setting, IsWriter, PutMore, PutStops, Stops, matter_in}
+use Rattle.dist_inquiry.specs.Inquiry.{Asks, IsLine, NoQuestion, OnlyThis, Setting, IsWriter, PutMore, PutStops, Stops, matter_in}
 use Rattle.dist_sweep.specs.Words.{closing_line}
 use Rattle.dist_cert.specs.ListLaws.{pairs-map}
 use Rattle.dist_sweep.specs.LineLaws.{keeps-same, derived-append, none-ended}
-use Rattle.dist_inquiry.proofs.Lines.{all-numbered, from-one, question-line, refuted-line}
-use Rattle.dist_inquiry.proofs.Opened.{asking-first}
-use Rattle.dist_inquiry.specs.InquiryLaws.{stops-after, stops-for-memory}
+use Rattle.dist_inquiry.proofs.Lines.{question-line}
+use Rattle.dist_inquiry.specs.InquiryLaws.{is_question, no-question, none-asked, stops-after, stops-for-memory, stops-silent, stops-wider}
 use Rattle.dist_sweep.specs.ScriptLaws.{BeginsLaw, TwiceLaw, lines-more, one-line}
 use Rattle.dist_inquiry.proofs.Closing.{Derives, DerivesNone, inputs-are}
 
@@ -62,8 +59,14 @@ may-derive g before question t w fits over more at =
 
 -- ---- where it stops
 
+no-question-closes : (answer : Answer) → is_question (closing_line answer) ≡ false
+no-question-closes (answers.Found values) = refl
+no-question-closes (answers.Refuted hints) = refl
+no-question-closes answers.Undecided = refl
+
 pub stops-before : BeginsLaw → (s : AskerView) (question : List Word) (first : DeskView) → AskStops s question first first NoMemory
-stops-before begins s question first g before at = stops-for-memory g before s.writer first first at.writer (begins first)
+stops-before begins s question first g before at =
+    stops-for-memory g (OnlyThis before (Question question)) before s.writer first first at.writer (begins first)
 
 pub stops-at-question : (t s : AskerView) (question : List Word) (first last : DeskView) (error : WorkError) → t ≡ s → t.log.variables < 2 ^ 32
     → IsOver t.log.variables question
@@ -77,9 +80,11 @@ pub stops-while-derived : TwiceLaw → (t s : AskerView) (question : List Word) 
     → DerivesNone t.log (clause_of question) t.limit mid last w error → AskStops s question first last error
 stops-while-derived twice t s question first mid last w error is fits over grew more none g before at =
     let here = at-view g before t s is at in
-    stops-after twice g before (Question question ∷ []) first mid last error
-    (subst (λ bytes. FileGrew bytes first mid) (sym (one-line (Question question))) grew)
-    (none g before question refl (may-derive g before question t w fits over more here))
+    let asks : Asks = OnlyThis before (Question question) in
+    stops-after twice g asks before (Question question ∷ []) first mid last error
+    (subst (λ bytes. FileGrew bytes first mid) (sym (one-line (Question question))) grew) ((refl, refl), tt)
+    (stops-silent g asks (before ++ Question question ∷ []) mid last error
+    (none g before question refl (may-derive g before question t w fits over more here)))
 
 pub stops-at-answer : TwiceLaw → (t s : AskerView) (after : ClauseLog) (question : List Word) (first mid later last : DeskView) (w behind : WriterView)
     (answer : Answer) (error : WorkError) → t ≡ s → t.log.variables < 2 ^ 32
@@ -89,9 +94,14 @@ pub stops-at-answer : TwiceLaw → (t s : AskerView) (after : ClauseLog) (questi
 stops-at-answer twice t s after question first mid later last w behind answer error is fits over grew more derives stops g before at =
     let here = at-view g before t s is at in
     let d = derives g before question refl (may-derive g before question t w fits over more here) in
-    stops-after twice g before (Question question ∷ d.between) first later last error
+    let asks : Asks = OnlyThis before (Question question) in
+    let lines : List CertRecord = before ++ Question question ∷ d.between in
+    stops-after twice g asks before (Question question ∷ d.between) first later last error
     (twice (ended (record_text (Question question))) (lines_text d.between) first mid later grew d.grew)
-    (stops g (before ++ Question question ∷ d.between) d.writer d.closing)
+    ((refl, refl), none-asked asks (before ++ Question question ∷ []) d.between d.only_derived)
+    (stops-silent g asks lines later last error
+    (stops-wider g (OnlyThis lines (closing_line answer)) NoQuestion (no-question lines (closing_line answer) (no-question-closes answer)) lines later last
+    error (stops g lines d.writer d.closing)))
 
 -- ---- what was asked
 
@@ -159,68 +169,3 @@ asked twice t s after question first mid later last w behind ends answer is fits
       says = says g before question t.log after t.limit answer here.log
           (inputs-are g (before ++ Question question ∷ d.between) after t.limit d.log_at ∙ sym (inputs-are g before t.log t.limit here.log)) d.answered;
     }
-
--- ---- a question that hints refute at once
-
-log-opened : (g : Setting) (before : List CertRecord) (question : List Word) (log : ClauseLog) (limit : ℕ) → IsLogAt g before log limit
-    → IsLogAt g (before ++ Question question ∷ []) log limit
-log-opened g before question log limit at = record {
-  limit_is = at.limit_is;
-  stand = at.stand;
-  clauses = at.clauses ∙ ap (λ (cs : List (List Literal)). (matter_in g).inputs ++ cs)
-      (sym (derived-append before (Question question ∷ []) ∙ append-nil (derived before)));
-  inputs = at.inputs;
-  variables = at.variables;
-  line_limit = at.line_limit;
-  line_literal_limit = at.line_literal_limit;
-  not_ended = none-ended before (Question question ∷ []) at.not_ended refl;
-}
-
-pub refutes-at-once : BeginsLaw → (log : ClauseLog) (assumptions : List Literal) (limit : ℕ) (here : DeskView) (w : WriterView) (hints : List ℕ)
-    → length log.clauses < 2 ^ 32 → IsRefutation log assumptions hints → Derives log log assumptions limit here here w w (answers.Refuted hints)
-refutes-at-once begins log assumptions limit here w hints fits refuted g before question is may =
-    let behind = log-opened g before question log limit may.log_at in
-    let refuted' = subst (λ a. IsRefutation log a hints) (sym is) refuted in
-    record {
-      between = [];
-      only_derived = λ k d within. absurd (omega (arith, within));
-      grew = begins here;
-      log_at = behind;
-      writer = may.writer;
-      closing = refuted-line g (before ++ Question question ∷ []) hints question [] behind.not_ended
-          (omega (arith, fits, ap length behind.clauses))
-          (subst (λ cs. Follows cs (map negation (clause_of question)) hints) behind.clauses refuted'.follows)
-          (omega (arith, refuted'.short, behind.variables)) (asking-first before question);
-      answered = refuted';
-    }
-
--- hints by which something follows are numbers from 1 on
-pub hints-from-one : (log : ClauseLog) (assumptions : List Literal) (hints : List ℕ) → IsRefutation log assumptions hints → AreFromOne hints
-hints-from-one log assumptions hints refuted =
-    from-one log.clauses hints (all-numbered log.clauses (map negation (map negation assumptions)) hints refuted.follows)
-
-pub negated-over : (n : ℕ) (clause : List Literal) → IsClauseOver n clause → IsClauseOver n (map negation clause)
-negated-over n clause over = record {
-  in_range = All-map (λ l. (1 ≤ l.variable) × (l.variable ≤ n)) negation clause over.in_range;
-  distinct = pairs-map (λ l m. l.variable ≢ m.variable) negation clause over.distinct;
-}
-
-pub refuted-by : (log : ClauseLog) (assumed : List Literal) (hints : List ℕ) → Follows log.clauses (map negation assumed) hints
-    → length hints ≤ log.variables + 1 → ((value : ℕ → Bool) → IsModel value (inputs_of log) → MakesTrue value (map negation assumed))
-    → IsRefutation log assumed hints
-refuted-by log assumed hints follows short sound = record {
-  follows = follows;
-  short = short;
-  no_model = λ value model all. denied value assumed all (sound value model);
-}
-  where
-    opposite : (b : Bool) → b ≡ not b → ⊥
-    opposite true e = cc
-    opposite false e = cc
-
-    denied : (value : ℕ → Bool) (clause : List Literal) → All (IsTrueLiteral value) clause → ¬ MakesTrue value (map negation clause)
-    denied value [] all some = omega (arith, some.2)
-    denied value (l ∷ clause) all some = elim (any-cases (IsTrueLiteral value) (negation l) (map negation clause) some) [
-      | inl here ↦ opposite l.positive (sym (All-head (IsTrueLiteral value) l clause all) ∙ here)
-      | inr later ↦ denied value clause (All-tail (IsTrueLiteral value) l clause all) later
-    ]

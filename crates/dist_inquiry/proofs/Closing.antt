@@ -29,12 +29,12 @@ use Rattle.dist_cert.specs.FileLines.{lines_text}
 use Rattle.dist_cert.specs.Writing.{WriterView}
 use Rattle.dist_inquiry.specs.Asking.{IsLogAt, IsDerived, MayDerive}
 use Rattle.dist_sweep.specs.Asking.{work_of}
-use Rattle.dist_inquiry.specs.Inquiry.{IsLine, Setting, IsWriter, Stops, PutAll, PutAllStops, matter_in}
+use Rattle.dist_inquiry.specs.Inquiry.{IsLine, NoQuestion, Setting, IsWriter, Stops, PutAll, PutAllStops, matter_in}
 use Rattle.dist_sweep.specs.Script.{KeepsLines}
 use Rattle.dist_sweep.specs.Words.{IsAnswerOver, closing_line, derived_lines, words_of, true_variables}
 use Rattle.dist_inquiry.proofs.Lines.{all-numbered, derived-line, from-one, installation-line, refuted-line, undecided-line}
 use Rattle.dist_inquiry.proofs.DerivedLines.{derived-push}
-use Rattle.dist_inquiry.specs.InquiryLaws.{stopped-here, stops-after}
+use Rattle.dist_inquiry.specs.InquiryLaws.{none-asked, stopped-here, stops-after}
 use Rattle.dist_sweep.specs.ScriptLaws.{BeginsLaw, TwiceLaw}
 use Rattle.dist_sweep.specs.TrueOnesLaws.{true-rising, true-low, true-upto, true-ones}
 use Rattle.dist_inquiry.proofs.Answered.{IsSmallLog, asking-derived, derived-all, lines-are, log-derived, only-derived}
@@ -129,10 +129,11 @@ pub no-answer : BeginsLaw → TwiceLaw → (g : Setting) (before : List CertReco
     → IsLogAt g before old limit → Adds old new ds (clause_of question) limit → IsSmallLog new → IsAnswer old new (clause_of question) limit (Err error)
     → FileGrew (lines_text (derived_lines new.clauses ds)) first last → IsWriter g ((before ++ Question question ∷ []) ++ derived_lines new.clauses ds)
     after
-    → Stops g (before ++ Question question ∷ []) first last (work_of error)
+    → Stops g NoQuestion (before ++ Question question ∷ []) first last (work_of error)
 no-answer begins twice g before question old new ds limit first last after error at adds small answered grew writer =
-    stops-after twice g (before ++ Question question ∷ []) (derived_lines new.clauses ds) first last last (work_of error) grew
-    (subst (λ ls. Stops g ls last last (work_of error)) (sym place) (by error answered))
+    stops-after twice g NoQuestion (before ++ Question question ∷ []) (derived_lines new.clauses ds) first last last (work_of error) grew
+    (none-asked NoQuestion (before ++ Question question ∷ []) (derived_lines new.clauses ds) (only-derived new.clauses ds))
+    (subst (λ ls. Stops g NoQuestion ls last last (work_of error)) (sym place) (by error answered))
   where
     place : (before ++ Question question ∷ []) ++ derived_lines new.clauses ds ≡ before ++ Question question ∷ derived_lines new.clauses ds
     place = append_assoc before (Question question ∷ []) (derived_lines new.clauses ds)
@@ -141,31 +142,39 @@ no-answer begins twice g before question old new ds limit first last after error
     stands = subst (λ ls. IsWriter g ls after) place writer
 
     by : (error : AskError) → IsAnswer old new (clause_of question) limit (Err error)
-        → Stops g (before ++ Question question ∷ derived_lines new.clauses ds) last last (work_of error)
+        → Stops g NoQuestion (before ++ Question question ∷ derived_lines new.clauses ds) last last (work_of error)
     by asks.TooManyLines next =
         let behind = log-derived g before question old new ds limit at adds in
         let step = Derived (words_of next.0) next.1.hints in
         let some = ap length (derived-push (before ++ Question question ∷ derived_lines new.clauses ds) next.0 next.1.hints) in
         let one = length-append (derived (before ++ Question question ∷ derived_lines new.clauses ds)) (next.0 ∷ []) in
         let here = ap length (lines-of g (before ++ Question question ∷ derived_lines new.clauses ds) new limit behind) in
-        stopped-here g (before ++ Question question ∷ derived_lines new.clauses ds) after last last (TooLarge Lines) [] stands (begins last) (inl refl)
-        (refl, (step, next-line g before question old new ds limit next.0 at adds small next.1, omega (arith, some, one, here, next.2, behind.line_limit)))
+        stopped-here g NoQuestion (before ++ Question question ∷ derived_lines new.clauses ds) after last last (TooLarge Lines) [] stands
+        (begins last) (inl refl) (
+          refl,
+          (
+            step,
+            (next-line g before question old new ds limit next.0 at adds small next.1, tt),
+            omega (arith, some, one, here, next.2, behind.line_limit),
+          ),
+        )
     by asks.TooManyLiterals next =
         let behind = log-derived g before question old new ds limit at adds in
         let step = Derived (words_of next.0) next.1.hints in
         let some = ap literal_count (derived-push (before ++ Question question ∷ derived_lines new.clauses ds) next.0 next.1.hints) in
         let one = sum_by-append (λ (c : List Literal). length c) (derived (before ++ Question question ∷ derived_lines new.clauses ds)) (next.0 ∷ []) in
         let here = ap literal_count (lines-of g (before ++ Question question ∷ derived_lines new.clauses ds) new limit behind) in
-        stopped-here g (before ++ Question question ∷ derived_lines new.clauses ds) after last last (TooLarge LineLiterals) [] stands (begins last)
+        stopped-here g NoQuestion (before ++ Question question ∷ derived_lines new.clauses ds) after last last (TooLarge LineLiterals) [] stands (begins last)
         (inl refl) (
           refl,
           (
             step,
-            next-line g before question old new ds limit next.0 at adds small next.1,
+            (next-line g before question old new ds limit next.0 at adds small next.1, tt),
             omega (arith, some, one, here, next.3, behind.line_literal_limit),
           ),
         )
-    by asks.NoMemory next = stopped-here g (before ++ Question question ∷ derived_lines new.clauses ds) after last last NoMemory [] stands (begins last)
+    by asks.NoMemory next =
+        stopped-here g NoQuestion (before ++ Question question ∷ derived_lines new.clauses ds) after last last NoMemory [] stands (begins last)
         (inl refl) tt
 
 -- ---- what is derived
@@ -179,7 +188,7 @@ Derives old new assumptions limit first last w after answer = (g : Setting) (bef
 abbrev pub DerivesNone : ClauseLog → List Literal → ℕ → DeskView → DeskView → WriterView → WorkError → Type 0
 DerivesNone old assumptions limit first last w error = (g : Setting) (before : List CertRecord) (question : List Word) → clause_of question ≡ assumptions
     → MayDerive g before question old limit w
-    → Stops g (before ++ Question question ∷ []) first last error
+    → Stops g NoQuestion (before ++ Question question ∷ []) first last error
 
 pub derives : (old new : ClauseLog) (ds : List DerivedLine) (assumptions : List Literal) (limit : ℕ) (first last : DeskView) (w after : WriterView)
     (answer : Answer) → Adds old new ds assumptions limit

@@ -6,6 +6,7 @@ mod DerivedLines
 mod Answered
 mod Closing
 mod Asked
+mod Refuted
 mod EdgeLines
 mod Found
 mod WholeFile

@@ -4,6 +4,7 @@ use Rattle.dist_outside.specs.DeskView.{DeskView, FileGrew}
 use Rattle.dist_outside.specs.declared.trouble.WorkError.TheVariants.{NoMemory}
 use Rattle.dist_solver.specs.declared.answers.Answer.{Answer}
 use Rattle.dist_cert.specs.declared.records.CertRecord.{CertRecord}
+use Rattle.dist_cert.specs.declared.records.CertRecord.TheVariants.{Question}
 use Rattle.dist_cert.specs.Form.{Word}
 use Rattle.dist_findings.specs.Findings.{findings}
 use Rattle.dist_findings.specs.declared.finding.Finding.{Finding}
@@ -12,7 +13,8 @@ use Rattle.dist_sweep.specs.ScriptLaws.{BeginsLaw, TwiceLaw}
 use Rattle.dist_sweep.specs.Words.{closing_line}
 use Rattle.dist_inquiry.specs.AnswerText.{IsNotedAt, NoteMore, Noting, finding_of}
 use Rattle.dist_inquiry.specs.Asking.{AskMore, AskStops}
-use Rattle.dist_inquiry.specs.InquiryLaws.{stops-after, stops-for-memory}
+use Rattle.dist_inquiry.specs.Inquiry.{Asks, OnlyThis}
+use Rattle.dist_inquiry.specs.InquiryLaws.{question-asked, stops-after, stops-for-memory}
 use Rattle.dist_inquiry.proofs.Found.{question-finds}
 
 -- what is noted of one finding more
@@ -37,5 +39,7 @@ pub stops-noted : BeginsLaw → TwiceLaw → (old new : DeskView) (a b : AskerVi
 stops-noted begins twice old new a b question answer asks g before at =
     let asked = asks g before at in
     let added : List CertRecord = question_lines question asked.between (closing_line answer) in
-    stops-after twice g before added old new new NoMemory asked.grew
-    (stops-for-memory g (before ++ added) b.writer new new asked.at.writer (begins new))
+    let this : Asks = OnlyThis before (Question question) in
+    stops-after twice g this before added old new new NoMemory asked.grew
+    (question-asked this before question asked.between answer (refl, refl) asked.only_derived)
+    (stops-for-memory g this (before ++ added) b.writer new new asked.at.writer (begins new))

@@ -15,9 +15,9 @@ use Rattle.dist_cert.specs.Form.{record_text}
 use Rattle.dist_cert.specs.PartByRecordsLaws.{IsShortLine}
 use Rattle.dist_cert.specs.FileLines.{file_text, lines_text}
 use Rattle.dist_cert.specs.Writing.{WriterView, HasRoom, PutAnswers, WritesNothing, ended, after_line}
-use Rattle.dist_inquiry.specs.Inquiry.{IsLine, Setting, AllNext, IsWriter, PutMore, PutStops, matter_in}
+use Rattle.dist_inquiry.specs.Inquiry.{IsLine, OnlyThis, Setting, AllNext, IsWriter, PutMore, PutStops, matter_in}
 use Rattle.dist_sweep.specs.Script.{KeepsLines}
-use Rattle.dist_inquiry.specs.InquiryLaws.{stopped-here, stops-for-memory}
+use Rattle.dist_inquiry.specs.InquiryLaws.{asks-itself, stopped-here, stops-for-memory}
 use Rattle.dist_sweep.specs.ScriptLaws.{lines-more, one-line, BeginsLaw, by-exit}
 
 -- ---- one line more
@@ -85,18 +85,21 @@ pub put-stops : BeginsLaw → (w : WriterView) (step : CertRecord) (old new : De
     → WritesNothing old new result → OnErr result (FileGrewByFront (ended (record_text step)) old new) → IfErr result (PutStops w step old new)
 put-stops begins w step old new (Ok u) answers nothing front = tt
 put-stops begins w step old new (Err WriteFault) answers nothing front = λ g before writer line.
-    stopped-here g before w old new WriteFault front.front writer front.grew (inr (step, line, front.is_front)) answers.rose
+    stopped-here g (OnlyThis before step) before w old new WriteFault front.front writer front.grew
+    (inr (step, (line, asks-itself before step), front.is_front)) answers.rose
 put-stops begins w step old new (Err NoMemory) answers nothing front = λ g before writer line.
-    stopped-here g before w old new NoMemory front.front writer front.grew (inr (step, line, front.is_front)) tt
+    stopped-here g (OnlyThis before step) before w old new NoMemory front.front writer front.grew
+    (inr (step, (line, asks-itself before step), front.is_front)) tt
 put-stops begins w step old new (Err (TooLarge RecordLine)) answers nothing front = λ g before writer line.
     let limit = ap (λ (v : WriterView). v.line_limit) writer.stands in
-    stopped-here g before w old new (TooLarge RecordLine) [] writer (stays begins old new nothing) (inl refl)
-    (refl, (step, line, inr (last-any (λ s. g.limits.record_line < length (ended (record_text s))) before step (omega (arith, limit, answers)))))
+    let long = last-any (λ s. g.limits.record_line < length (ended (record_text s))) before step (omega (arith, limit, answers)) in
+    stopped-here g (OnlyThis before step) before w old new (TooLarge RecordLine) [] writer (stays begins old new nothing) (inl refl)
+    (refl, (step, (line, asks-itself before step), inr long))
 put-stops begins w step old new (Err (TooLarge Certificate)) answers nothing front = λ g before writer line.
     let limit = ap (λ (v : WriterView). v.whole_limit) writer.stands in
     let count = ap (λ (v : WriterView). v.written) writer.stands in
-    stopped-here g before w old new (TooLarge Certificate) [] writer (stays begins old new nothing) (inl refl)
-    (refl, (step, line, omega (arith, limit, count, answers.whole_passed, text-more g.first before step)))
+    stopped-here g (OnlyThis before step) before w old new (TooLarge Certificate) [] writer (stays begins old new nothing) (inl refl)
+    (refl, (step, (line, asks-itself before step), omega (arith, limit, count, answers.whole_passed, text-more g.first before step)))
 put-stops begins w step old new (Err error) answers nothing front = absurd answers
 
 -- ---- exits by `?`
@@ -106,4 +109,4 @@ pub no-memory : {X : Type 0} → BeginsLaw → (w : WriterView) (step : CertReco
     → IsErrAnd result (λ e. e ≡ NoMemory) → IfErr result (PutStops w step old old)
 no-memory {X} begins w step old result is =
     by-exit (λ (r : Result X WorkError). IfErr r (PutStops w step old old)) result NoMemory is
-    (λ g before writer line. stops-for-memory g before w old old writer (begins old))
+    (λ g before writer line. stops-for-memory g (OnlyThis before step) before w old old writer (begins old))

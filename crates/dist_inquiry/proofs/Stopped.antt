@@ -1,9 +1,7 @@
 -- A file from its first line to its end, and where it stops.
 use Rattle.std.proofs.Common.{◌≡◌, ◌⊎◌, inl, inr, ℕ, Result, Ok, Err, OnOk, IfErr, List, [], ◌∷◌}
 use Rattle.std.proofs.Common.{◌++◌, Option, Some, None, refl, ap, sym, subst, ◌∙◌, append_assoc, append-nil, arith, length}
-use Rattle.std.proofs.lemmas.List.{take_all}
 use Rattle.dist_base.specs.Ascii.{line_feed}
-use Rattle.dist_base.specs.Front.{IsFrontOf}
 use Rattle.dist_outside.specs.DeskView.{DeskView, FileGrew}
 use Rattle.dist_outside.specs.declared.limits.Limits.{Limits}
 use Rattle.dist_outside.specs.declared.trouble.WorkError.{WorkError}
@@ -22,10 +20,9 @@ use Rattle.dist_sweep.specs.ScriptLaws.{TwiceLaw, lines-more, one-line, rose-lat
 use Rattle.dist_inquiry.specs.AnswerText.{setting_of, whole_text}
 use Rattle.dist_inquiry.specs.Asking.{IsAt}
 use Rattle.dist_inquiry.specs.Edges.{EndMore, EndStops, FirstMore, FirstStops, LineStopsBy, StopsIn}
-use Rattle.dist_inquiry.specs.Inquiring.{InquiryMore, InquiryStops, MayInquire, MaySettle, SettleMore, SettleStops, decided_by}
-use Rattle.dist_inquiry.specs.Inquiry.{IsCutOff, Setting, Stops, StopsBy}
-use Rattle.dist_inquiry.specs.Written.{IsCutLine, IsNextAt, IsStopped, StoppedBy, text_so_far}
-use Rattle.dist_inquiry.proofs.OneLine.{text-push}
+use Rattle.dist_inquiry.specs.Inquiring.{InquiryMore, InquiryStops, MayInquire, MaySettle, SettleMore, SettleStops, course_of}
+use Rattle.dist_inquiry.specs.Inquiry.{Asks, IsCutOff, Setting, Stops, StopsBy}
+use Rattle.dist_inquiry.specs.Written.{Course, IsCutLine, IsStopped, StoppedBy}
 use Rattle.dist_inquiry.proofs.WholeFile.{ended-answered}
 
 -- a first line with what stands behind it
@@ -35,70 +32,66 @@ joined first lines more = append_assoc first (line_feed ∷ []) (lines_text line
 
 -- ---- in the first line
 
-by-first : (g : Setting) (Decided : List CertRecord → Type 0) (cut : List ℕ) (old new : DeskView) (error : WorkError)
-    → LineStopsBy g [] cut old new error → StoppedBy g Decided None cut old new error
-by-first g Decided cut old new WriteFault by = by
-by-first g Decided cut old new (TooLarge what) by = (by.0, (g.first, [], (refl, refl), by.1))
-by-first g Decided cut old new NoMemory by = tt
-by-first g Decided cut old new ReadFault by = by
+by-first : (g : Setting) (course : Course) (cut : List ℕ) (old new : DeskView) (error : WorkError)
+    → LineStopsBy g [] cut old new error → StoppedBy g course None cut old new error
+by-first g course cut old new WriteFault by = by
+by-first g course cut old new (TooLarge what) by = (by.0, (g.first, [], (refl, refl), by.1))
+by-first g course cut old new NoMemory by = tt
+by-first g course cut old new ReadFault by = by
 
-first-stopped : (g : Setting) (Decided : List CertRecord → Type 0) (line : List ℕ) (old new : DeskView) (error : WorkError) → line ≡ g.first
-    → StopsIn g line [] old new error → IsStopped g Decided old new error
-first-stopped g Decided line old new error is stops = record {
+first-stopped : (g : Setting) (course : Course) (line : List ℕ) (old new : DeskView) (error : WorkError) → line ≡ g.first
+    → StopsIn g line [] old new error → IsStopped g course old new error
+first-stopped g course line old new error is stops = record {
   before = None;
   cut = stops.cut;
   written = tt;
   grew = stops.grew;
   cut_line = inr (line, [], (is, refl), stops.is_front);
-  by = by-first g Decided stops.cut old new error stops.by;
+  by = by-first g course stops.cut old new error stops.by;
 }
 
 -- ---- behind it
 
-cut-later : (g : Setting) (Decided : List CertRecord → Type 0) (lines : List CertRecord) (cut : List ℕ) → (cut ≡ []) ⊎ IsCutOff g lines cut
-    → IsCutLine g Decided (Some lines) cut
-cut-later g Decided lines cut (inl none) = inl none
-cut-later g Decided lines cut (inr off) = inr (record_text off.0, lines ++ off.0 ∷ [], (off.0, inl off.1, refl, refl), off.2)
+cut-later : (g : Setting) (course : Course) (lines : List CertRecord) (cut : List ℕ) → (cut ≡ []) ⊎ IsCutOff g course.asks lines cut
+    → IsCutLine g course (Some lines) cut
+cut-later g course lines cut (inl none) = inl none
+cut-later g course lines cut (inr off) = inr (record_text off.0, lines ++ off.0 ∷ [], (off.0, inl off.1, refl, refl), off.2)
 
-by-later : (g : Setting) (Decided : List CertRecord → Type 0) (lines : List CertRecord) (cut : List ℕ) (old mid new : DeskView) (error : WorkError)
+by-later : (g : Setting) (course : Course) (lines : List CertRecord) (cut : List ℕ) (old mid new : DeskView) (error : WorkError)
     → FileGrew (ended g.first) old mid → (bytes : List ℕ) → FileGrew bytes mid new
-    → StopsBy g lines cut mid new error → StoppedBy g Decided (Some lines) cut old new error
-by-later g Decided lines cut old mid new WriteFault first bytes grew by =
+    → StopsBy g course.asks lines cut mid new error → StoppedBy g course (Some lines) cut old new error
+by-later g course lines cut old mid new WriteFault first bytes grew by =
     rose-later old.write_faults mid.write_faults new.write_faults first.counts.write_faults_stand grew.counts.write_faults_stand by
-by-later g Decided lines cut old mid new (TooLarge what) first bytes grew by =
+by-later g course lines cut old mid new (TooLarge what) first bytes grew by =
     (by.0, (record_text by.1.0, lines ++ by.1.0 ∷ [], (by.1.0, inl by.1.1, refl, refl), by.1.2))
-by-later g Decided lines cut old mid new NoMemory first bytes grew by = tt
-by-later g Decided lines cut old mid new ReadFault first bytes grew by = by
+by-later g course lines cut old mid new NoMemory first bytes grew by = tt
+by-later g course lines cut old mid new ReadFault first bytes grew by = by
 
-later-stopped : TwiceLaw → (g : Setting) (Decided : List CertRecord → Type 0) (old mid new : DeskView) (error : WorkError)
-    → FileGrew (ended g.first) old mid → Stops g [] mid new error → IsStopped g Decided old new error
-later-stopped twice g Decided old mid new error first stops = record {
+later-stopped : TwiceLaw → (g : Setting) (course : Course) (old mid new : DeskView) (error : WorkError)
+    → FileGrew (ended g.first) old mid → Stops g course.asks [] mid new error → IsStopped g course old new error
+later-stopped twice g course old mid new error first stops = record {
   before = Some stops.added;
   cut = stops.cut;
-  written = stops.written;
+  written = (stops.written, stops.asked);
   grew = subst (λ bytes. FileGrew bytes old new) (joined g.first stops.added stops.cut)
       (twice (ended g.first) (lines_text stops.added ++ stops.cut) old mid new first stops.grew);
-  cut_line = cut-later g Decided stops.added stops.cut stops.cut_off;
-  by = by-later g Decided stops.added stops.cut old mid new error first (lines_text stops.added ++ stops.cut) stops.grew stops.by;
+  cut_line = cut-later g course stops.added stops.cut stops.cut_off;
+  by = by-later g course stops.added stops.cut old mid new error first (lines_text stops.added ++ stops.cut) stops.grew stops.by;
 }
 
 -- ---- in the end
 
-by-end : (g : Setting) (Decided : List CertRecord → Type 0) (lines : List CertRecord) (cut : List ℕ) (old mid new : DeskView) (error : WorkError)
+by-end : (g : Setting) (course : Course) (lines : List CertRecord) (cut : List ℕ) (old mid new : DeskView) (error : WorkError)
     → Decided lines → (bytes : List ℕ) → FileGrew bytes old mid → FileGrew cut mid new
-    → LineStopsBy g (lines ++ End ∷ []) cut mid new error → StoppedBy g Decided (Some lines) cut old new error
-by-end g Decided lines cut old mid new WriteFault decided bytes first grew by =
+    → LineStopsBy g (lines ++ End ∷ []) cut mid new error → StoppedBy g course (Some lines) cut old new error
+by-end g course lines cut old mid new WriteFault decided bytes first grew by =
     rose-later old.write_faults mid.write_faults new.write_faults first.counts.write_faults_stand grew.counts.write_faults_stand by
-by-end g Decided lines cut old mid new (TooLarge what) decided bytes first grew by =
+by-end g course lines cut old mid new (TooLarge what) decided bytes first grew by =
     (by.0, (record_text End, lines ++ End ∷ [], (End, inr (refl, decided), refl, refl), by.1))
-by-end g Decided lines cut old mid new NoMemory decided bytes first grew by = tt
-by-end g Decided lines cut old mid new ReadFault decided bytes first grew by = by
+by-end g course lines cut old mid new NoMemory decided bytes first grew by = tt
+by-end g course lines cut old mid new ReadFault decided bytes first grew by = by
 
 -- ---- the whole
-
--- all of a text is a front of it
-all-of : (bytes : List ℕ) → IsFrontOf bytes bytes
-all-of bytes = record { count = length bytes; within = omega arith; is = sym (take_all (length bytes) bytes (omega arith)) }
 
 -- what the first line makes of what may begin
 settles : (file : AnswerFile) (Keeps : List ℕ → Type 0) (limits : Limits) (numbers : List ℕ) (basis : Inputs) (a b : AskerView) (line : List ℕ)
@@ -112,27 +105,30 @@ settles file Keeps limits numbers basis a b line is rest more may =
       keeps = may.keeps;
     }
 
-pub all-first-stops : (file : AnswerFile) (Keeps : List ℕ → Type 0) (a : AskerView) (line : List ℕ) (old new : DeskView) (error : WorkError)
+pub all-first-stops : (file : AnswerFile) (Keeps : List ℕ → Type 0) (asks : List ℕ → Asks)
+    (a : AskerView) (line : List ℕ) (old new : DeskView) (error : WorkError)
     → FirstStops a.writer line old new error
-    → (numbers : List ℕ) → line ≡ first_line file.front numbers → InquiryStops file Keeps numbers old new a error
-all-first-stops file Keeps a line old new error stops numbers is limits basis may =
+    → (numbers : List ℕ) → line ≡ first_line file.front numbers → InquiryStops file Keeps asks numbers old new a error
+all-first-stops file Keeps asks a line old new error stops numbers is limits basis may =
     let g : Setting = setting_of file limits basis numbers in
-    first-stopped g (decided_by file numbers) line old new error is (stops g is may.writer)
+    first-stopped g (course_of file asks numbers) line old new error is (stops g is may.writer)
 
-pub all-settle-stops : TwiceLaw → (file : AnswerFile) (Keeps : List ℕ → Type 0) (a b : AskerView) (line : List ℕ) (old mid new : DeskView)
+pub all-settle-stops : TwiceLaw → (file : AnswerFile) (Keeps : List ℕ → Type 0) (asks : List ℕ → Asks)
+    (a b : AskerView) (line : List ℕ) (old mid new : DeskView)
     (error : WorkError) → FileGrew (ended line) old mid → b ≡ record a { writer = b.writer } → FirstMore a.writer b.writer line
-    → SettleStops file Keeps mid new b error
-    → (numbers : List ℕ) → line ≡ first_line file.front numbers → InquiryStops file Keeps numbers old new a error
-all-settle-stops twice file Keeps a b line old mid new error grew rest more stops numbers is limits basis may =
+    → SettleStops file Keeps asks mid new b error
+    → (numbers : List ℕ) → line ≡ first_line file.front numbers → InquiryStops file Keeps asks numbers old new a error
+all-settle-stops twice file Keeps asks a b line old mid new error grew rest more stops numbers is limits basis may =
     let g : Setting = setting_of file limits basis numbers in
-    later-stopped twice g (decided_by file numbers) old mid new error (subst (λ l. FileGrew (ended l) old mid) is grew)
+    later-stopped twice g (course_of file asks numbers) old mid new error (subst (λ l. FileGrew (ended l) old mid) is grew)
     (stops limits numbers basis (settles file Keeps limits numbers basis a b line is rest more may))
 
-pub all-end-stops : TwiceLaw → (file : AnswerFile) (Keeps : List ℕ → Type 0) (Told : List ℕ → List Finding → Type 0) (a b d : AskerView) (line : List ℕ)
+pub all-end-stops : TwiceLaw → (file : AnswerFile) (Keeps : List ℕ → Type 0) (asks : List ℕ → Asks)
+    (Told : List ℕ → List Finding → Type 0) (a b d : AskerView) (line : List ℕ)
     (old mid late new : DeskView) (error : WorkError) → FileGrew (ended line) old mid → b ≡ record a { writer = b.writer }
-    → FirstMore a.writer b.writer line → SettleMore file Keeps Told mid late b d → EndStops d.writer late new error
-    → (numbers : List ℕ) → line ≡ first_line file.front numbers → InquiryStops file Keeps numbers old new a error
-all-end-stops twice file Keeps Told a b d line old mid late new error grew rest more settle stops numbers is limits basis may =
+    → FirstMore a.writer b.writer line → SettleMore file Keeps asks Told mid late b d → EndStops d.writer late new error
+    → (numbers : List ℕ) → line ≡ first_line file.front numbers → InquiryStops file Keeps asks numbers old new a error
+all-end-stops twice file Keeps asks Told a b d line old mid late new error grew rest more settle stops numbers is limits basis may =
     let g : Setting = setting_of file limits basis numbers in
     let first = subst (λ l. FileGrew (ended l) old mid) is grew in
     let x = settle limits numbers basis (settles file Keeps limits numbers basis a b line is rest more may) in
@@ -144,18 +140,19 @@ all-end-stops twice file Keeps Told a b d line old mid late new error grew rest 
     record {
       before = Some x.lines;
       cut = s.cut;
-      written = x.at.writer.written;
+      written = (x.at.writer.written, x.asked);
       grew = twice (file_text g.first x.lines) s.cut old late new text s.grew;
       cut_line = inr (record_text End, x.lines ++ End ∷ [], (End, inr (refl, x.decided), refl, refl), s.is_front);
-      by = by-end g (decided_by file numbers) x.lines s.cut old late new error x.decided (file_text g.first x.lines) text s.grew s.by;
+      by = by-end g (course_of file asks numbers) x.lines s.cut old late new error x.decided (file_text g.first x.lines) text s.grew s.by;
     }
 
 pub all-whole : FormsAreClear → TwiceLaw → (file : AnswerFile) → IsOneLine file.front → (Keeps : List ℕ → Type 0)
-    (Told : List ℕ → List Finding → Type 0) (a b d : AskerView) (line : List ℕ) (old mid late new : DeskView) → FileGrew (ended line) old mid
-    → b ≡ record a { writer = b.writer } → FirstMore a.writer b.writer line → SettleMore file Keeps Told mid late b d
+    (asks : List ℕ → Asks) (Told : List ℕ → List Finding → Type 0) (a b d : AskerView) (line : List ℕ) (old mid late new : DeskView)
+    → FileGrew (ended line) old mid
+    → b ≡ record a { writer = b.writer } → FirstMore a.writer b.writer line → SettleMore file Keeps asks Told mid late b d
     → FileGrew (ended (record_text End)) late new → EndMore d.writer
-    → (numbers : List ℕ) → line ≡ first_line file.front numbers → InquiryMore file Keeps Told numbers old new a
-all-whole clear twice file one Keeps Told a b d line old mid late new grew rest more settle last done numbers is limits basis may =
+    → (numbers : List ℕ) → line ≡ first_line file.front numbers → InquiryMore file Keeps asks Told numbers old new a
+all-whole clear twice file one Keeps asks Told a b d line old mid late new grew rest more settle last done numbers is limits basis may =
     let g : Setting = setting_of file limits basis numbers in
     let first = subst (λ l. FileGrew (ended l) old mid) is grew in
     let x = settle limits numbers basis (settles file Keeps limits numbers basis a b line is rest more may) in
@@ -168,13 +165,7 @@ all-whole clear twice file one Keeps Told a b d line old mid late new grew rest 
           (twice (ended g.first) (lines_text x.lines ++ ended (record_text End)) old mid new first
           (twice (lines_text x.lines) (ended (record_text End)) mid late new x.grew last));
       answered = ended-answered clear file one limits numbers basis may.right x.lines (done g x.lines x.at.writer) x.decided (Told numbers) x.told;
-      so_far = record {
-        before = Some x.lines;
-        written = x.at.writer.written;
-        cut = ended (record_text End);
-        is = text-push g.first x.lines End;
-        cut_line = inr (record_text End, x.lines ++ End ∷ [], (End, inr (refl, x.decided), refl, refl), all-of (ended (record_text End)));
-      };
+      whole = record { lines = x.lines; is = refl; written = x.at.writer.written; asked = x.asked; decided = x.decided };
     }
 
 -- ---- answers

@@ -1,7 +1,7 @@
 -- What is kept while questions are asked, and what a question writes.
 use Rattle.std.specs.Prelude.{◌≡◌, ℕ, Bool, false, List, ◌∷◌, ◌++◌, [], All, length, map, Ok}
 use Rattle.std.specs.List.{list_any, AllPass}
-use Rattle.dist_clause.specs.Formula.{IsModel, IsTrueLiteral, negation, value_of}
+use Rattle.dist_clause.specs.Formula.{IsModel, IsTrueLiteral, Literal, negation, value_of}
 use Rattle.dist_derive.specs.ClauseLog.{ClauseLog}
 use Rattle.dist_derive.specs.Follows.{Follows}
 use Rattle.dist_outside.specs.DeskView.{DeskView, FileGrew}
@@ -82,7 +82,6 @@ pub record IsDerived (g : Setting) (before : List CertRecord) (question : List W
   pub closing : IsLine g (before ++ Question question ∷ between) (closing_line answer)
   pub answered : IsAnswer log after (clause_of question) limit (Ok answer)
 
--- The hints refute the question: the clause of its negated literals follows by them, and they are not too many.
-abbrev pub AreRefuted : ClauseLog → List Word → (hints : List ℕ) → Type 0
-AreRefuted log question hints = Follows log.clauses (map negation (clause_of question)) hints
-    × IsShort log.variables hints
+-- The hints refute the assumptions: the clause of their negations follows by them, and they are not too many.
+abbrev pub AreRefuted : ClauseLog → (assumptions : List Literal) → (hints : List ℕ) → Type 0
+AreRefuted log assumptions hints = Follows log.clauses (map negation assumptions) hints × IsShort log.variables hints

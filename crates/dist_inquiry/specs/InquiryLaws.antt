@@ -1,9 +1,9 @@
 -- Laws of which questions lines ask, and of where the writing of a file of one question stops behind more lines. Proofs
 -- cite them, those of the crates above too.
-use Rattle.std.proofs.Common.{◌≡◌, ◌⊎◌, inl, inr, ℕ, ◌≤◌, true, List, [], ◌∷◌, ◌++◌, refl, ap, sym, subst, ◌∙◌}
-use Rattle.std.proofs.Common.{append_assoc, append-nil}
+use Rattle.std.proofs.Common.{◌≡◌, ◌⊎◌, inl, inr, ℕ, ◌≤◌, Bool, true, false, List, [], ◌∷◌, ◌++◌, refl, ap, sym, subst}
+use Rattle.std.proofs.Common.{◌∙◌, append_assoc, append-nil}
 use Rattle.std.specs.List.{AllPass}
-use Rattle.std.proofs.lemmas.Bool.{false≢true, true≢false}
+use Rattle.std.proofs.lemmas.Bool.{false≢true}
 use Rattle.std.proofs.lemmas.List.Elements.{All-head, All-tail}
 use Rattle.dist_outside.specs.Counts.{Rose}
 use Rattle.dist_outside.specs.DeskView.{DeskView, FileGrew, WriteCounts}
@@ -126,11 +126,19 @@ pub only-this : (asks : Asks) (before : List CertRecord) (question : List Word) 
 only-this asks before question may b q this =
     subst (λ ls. asks ls q) (sym this.0) (subst (λ w. asks before w) (ap (λ (s : CertRecord). words-of s) this.1) may)
 
--- a derived line asks nothing
-pub no-question : (before : List CertRecord) (step : CertRecord) → is_derived step ≡ true
+abbrev pub is_question : CertRecord → Bool
+is_question (Question words) = true
+is_question step = false
+
+-- a line that is no question asks nothing
+pub no-question : (before : List CertRecord) (step : CertRecord) → is_question step ≡ false
     → AllowsMore (OnlyThis before step) NoQuestion
-no-question before step derived b q this =
-    false≢true (sym (ap (λ (s : CertRecord). is_derived s) this.1) ∙ derived)
+no-question before step none b q this = false≢true (sym none ∙ ap (λ (s : CertRecord). is_question s) this.1)
+
+-- a line asks itself at most
+pub asks-itself : (before : List CertRecord) (step : CertRecord) → MayAsk (OnlyThis before step) before step
+asks-itself before (Question question) = (refl, refl)
+asks-itself before step = tt
 
 -- the writing of one question's lines stopped
 pub stops-asking : (g : Setting) (asks : Asks) (before : List CertRecord) (question : List Word) (old new : DeskView)

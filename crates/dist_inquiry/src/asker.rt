@@ -3,11 +3,10 @@ ghost use Rattle.std.specs.Prelude.{◌≡◌, ◌≤◌, ◌↔◌, List, [], �
 ghost use Rattle.dist_base.specs.declared.TheConstants.{MAX_LINES, MAX_LINE_LITERALS, MAX_VARIABLES};
 ghost use Rattle.dist_clause.specs.ClauseList.{clause_at};
 ghost use Rattle.dist_clause.specs.Formula.{IsClauseOver, negation};
-ghost use Rattle.dist_derive.specs.Follows.{EachLineFollows, Follows, IsNumberOf};
+ghost use Rattle.dist_derive.specs.Follows.{EachLineFollows, IsNumberOf};
 ghost use Rattle.dist_outside.specs.DeskView.{FileGrew};
 ghost use Rattle.dist_outside.specs.Files.{IsWriting};
 ghost use Rattle.dist_solver.specs.Ask.{IsAnswer, IsRefutation};
-ghost use Rattle.dist_solver.specs.Evidence.{IsShort};
 ghost use Rattle.dist_solver.specs.declared.answers.Answer.TheVariants as answers;
 ghost use Rattle.dist_cert.specs.FileLines.{IsOneLine};
 ghost use Rattle.dist_cert.specs.Form.{AreFromOne, KeepsRules, Word, record_text};
@@ -175,8 +174,7 @@ fn are_refuted(
 ) -> Result<bool, AllocError>
     requires assumptions { IsClauseOver log.now.variables assumptions.now }
     requires lines_follow { EachLineFollows log.now.inputs log.now.clauses }
-    ensures exactly { IfOk result (λ yes. IsTrue yes
-        ↔ Follows log.now.clauses (map negation assumptions.now) hints.now × IsShort log.now.variables hints.now) }
+    ensures exactly { IfOk result (λ yes. IsTrue yes ↔ AreRefuted log.now assumptions.now hints.now) }
     ensures refuted { IfOk result (λ yes. IsTrue yes → IsRefutation log.now assumptions.now hints.now) }
     ensures numbers { IfOk result (λ yes. IsTrue yes → AreFromOne hints.now) }
 {
@@ -303,11 +301,11 @@ impl Inquirer {
             (λ clause. IsNumberOf self.now.log.clauses number × (clause.now ≡ clause_at self.now.log.clauses number)) }
         ensures over { IfSome result (λ clause. IsClauseOver self.now.log.variables clause.now) }
     {
-        if 1 <= number && number <= self.solver.log().len() {
-            Some(self.solver.log().clause(number))
-        } else {
-            None
+        let log = self.solver.log();
+        if number == 0 || number > log.len() {
+            return None;
         }
+        Some(log.clause(number))
     }
 
     /// Writes a question that these hints refute, with its answer, where they do. The solver isn't asked.
@@ -319,7 +317,7 @@ impl Inquirer {
     ) -> Result<bool, WorkError>
         requires writing { IsWriting (D.view desk.old).mode }
         requires question { IsOver self.old.log.variables question.now }
-        ensures exactly { IfOk result (λ yes. IsTrue yes ↔ AreRefuted self.old.log question.now hints.now) }
+        ensures exactly { IfOk result (λ yes. IsTrue yes ↔ AreRefuted self.old.log (clause_of question.now) hints.now) }
         ensures ok { IfOk result (λ yes. IsTrue yes → AskMore (D.view desk.old) (D.view desk.new) self.old self.new question.now (answers.Refuted hints.now)) }
         ensures none { IfOk result (λ yes. IsFalse yes → (desk.new ≡ desk.old) × (self.new ≡ self.old)) }
         ensures err { IfErr result (AskStops self.old question.now (D.view desk.old) (D.view desk.new)) }
@@ -330,7 +328,8 @@ impl Inquirer {
         let _stated = self.solver.log().variables();
         let _within = self.solver.log().len();
         let assumptions = clause_of(self.alloc, question)?;
-        if !are_refuted(self.alloc, self.solver.log(), &assumptions, hints)? {
+        let refuted = are_refuted(self.alloc, self.solver.log(), &assumptions, hints)?;
+        if !refuted {
             return Ok(false);
         }
         put_question(self.alloc, &mut self.writer, desk, question)?;

@@ -2,6 +2,7 @@
 ghost use Rattle.std.specs.Prelude.{◌≡◌, ◌≤◌, ◌↔◌, IfErr, IfOk, IsFalse, IsTrue};
 ghost use Rattle.dist_outside.specs.Files.{IsWriting};
 ghost use Rattle.dist_cert.specs.Form.{AreLiterals};
+ghost use Rattle.dist_cert.specs.Groups.{clause_of};
 ghost use Rattle.dist_findings.specs.Findings.{IsFormed};
 ghost use Rattle.dist_solver.specs.declared.answers.Answer.TheVariants as answers;
 ghost use Rattle.dist_sweep.specs.Asking.{IsOver};
@@ -85,7 +86,7 @@ pub fn refute_and_note<D: Desk, A: Answering>(
 ) -> Result<bool, WorkError>
     requires writing { IsWriting (D.view desk.old).mode }
     requires question { IsOver inquirer.old.log.variables question.now }
-    ensures exactly { IfOk result (λ yes. IsTrue yes ↔ AreRefuted inquirer.old.log question.now hints.now) }
+    ensures exactly { IfOk result (λ yes. IsTrue yes ↔ AreRefuted inquirer.old.log (clause_of question.now) hints.now) }
     ensures ok { IfOk result (λ yes. IsTrue yes
         → NoteMore (A.noted answering.now) (D.view desk.old) (D.view desk.new) inquirer.old inquirer.new notes.old notes.new question.now (answers.Refuted hints.now)) }
     ensures none { IfOk result (λ yes. IsFalse yes → (desk.new ≡ desk.old) × (inquirer.new ≡ inquirer.old) × (notes.new ≡ notes.old)) }
@@ -94,7 +95,8 @@ pub fn refute_and_note<D: Desk, A: Answering>(
     ensures grows { Grows (D.view desk.old) (D.view desk.new) }
 {
     file_grows();
-    if !inquirer.refute(desk, question, hints)? {
+    let refuted = inquirer.refute(desk, question, hints)?;
+    if !refuted {
         return Ok(false);
     }
     let literals = question.to_vec(alloc)?;

@@ -46,9 +46,6 @@ none-found = refl
 
 module _ (s : SpaceView) (space : IsSpace s) (limits : Limits) (numbers : List ℕ) (basis : Inputs) (w : WordsView)
     (right : AreRight s limits numbers basis w) where
-  abbrev pub asked : Asked
-  asked = asked_by numbers
-
   abbrev g : Setting
   g = setting_at s limits numbers basis
 

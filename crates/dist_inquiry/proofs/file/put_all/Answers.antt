@@ -14,9 +14,10 @@ returns-in_err-put_first-clause-err g c =
     let new : DeskView = g.D.Desk.view c.put_first.new.desk in
     let file = g.S.Inquiring.file c.args.search.now in
     let Keeps = g.S.Inquiring.keeps c.args.search.now in
+    let asks = g.S.Inquiring.asks c.args.search.now in
     by-exit (λ (r : Result (Unit {0}) WorkError). IfErr r (λ error. (numbers : List ℕ) → c.args.line.now ≡ first_line file.front numbers
-    → InquiryStops file Keeps numbers old new c.args.inquirer.now error)) c.from_residual.result c.in_err-put_first.field-0.0 c.from_residual.ensures.1
-    (all-first-stops file Keeps c.args.inquirer.now c.args.line.now old new c.in_err-put_first.field-0.0 c.in_err-put_first.ensures.err)
+    → InquiryStops file Keeps asks numbers old new c.args.inquirer.now error)) c.from_residual.result c.in_err-put_first.field-0.0 c.from_residual.ensures.1
+    (all-first-stops file Keeps asks c.args.inquirer.now c.args.line.now old new c.in_err-put_first.field-0.0 c.in_err-put_first.ensures.err)
 
 pub returns-in_err-settle-clause-err : goal.returns-in_err-settle-clause-err
 returns-in_err-settle-clause-err g c =
@@ -25,10 +26,11 @@ returns-in_err-settle-clause-err g c =
     let new : DeskView = g.D.Desk.view c.settle.new.desk in
     let file = g.S.Inquiring.file c.args.search.now in
     let Keeps = g.S.Inquiring.keeps c.args.search.now in
+    let asks = g.S.Inquiring.asks c.args.search.now in
     by-exit (λ (r : Result (Unit {0}) WorkError). IfErr r (λ error. (numbers : List ℕ) → c.args.line.now ≡ first_line file.front numbers
-    → InquiryStops file Keeps numbers old new c.args.inquirer.now error)) c.from_residual-in_err-settle.result c.in_err-settle.field-0.0
+    → InquiryStops file Keeps asks numbers old new c.args.inquirer.now error)) c.from_residual-in_err-settle.result c.in_err-settle.field-0.0
     c.from_residual-in_err-settle.ensures.1
-    (all-settle-stops c.file_grows.ensures.twice file Keeps c.args.inquirer.now c.put_first.new.self c.args.line.now old mid new
+    (all-settle-stops c.file_grows.ensures.twice file Keeps asks c.args.inquirer.now c.put_first.new.self c.args.line.now old mid new
     c.in_err-settle.field-0.0 c.in_ok-put_first.ensures.grew c.put_first.ensures.rest c.in_ok-put_first.ensures.ok c.in_err-settle.ensures.err)
 
 pub returns-in_err-settle-clause-grows : goal.returns-in_err-settle-clause-grows
@@ -45,7 +47,8 @@ returns-clause-ok g c =
     let file = g.S.Inquiring.file c.args.search.now in
     on-both c.finish.result
     (λ last done. all-whole c.forms_are_clear.ensures c.file_grows.ensures.twice file c.requires.front (g.S.Inquiring.keeps c.args.search.now)
-    (g.S.Inquiring.told c.args.search.now c.settle.new.self) c.args.inquirer.now c.put_first.new.self c.settle.new.inquirer c.args.line.now old mid late new
+    (g.S.Inquiring.asks c.args.search.now) (g.S.Inquiring.told c.args.search.now c.settle.new.self) c.args.inquirer.now c.put_first.new.self c.settle.new.inquirer
+    c.args.line.now old mid late new
     c.in_ok-put_first.ensures.grew c.put_first.ensures.rest c.in_ok-put_first.ensures.ok c.in_ok-settle.ensures.ok last done)
     c.finish.ensures.grew c.finish.ensures.ok
 
@@ -57,9 +60,10 @@ returns-clause-err g c =
     let new : DeskView = g.D.Desk.view c.finish.new.desk in
     let file = g.S.Inquiring.file c.args.search.now in
     let Keeps = g.S.Inquiring.keeps c.args.search.now in
+    let asks = g.S.Inquiring.asks c.args.search.now in
     if-err (EndStops c.settle.new.inquirer.writer late new) (λ error. (numbers : List ℕ) → c.args.line.now ≡ first_line file.front numbers
-    → InquiryStops file Keeps numbers old new c.args.inquirer.now error) c.finish.result
-    (λ error stops. all-end-stops c.file_grows.ensures.twice file Keeps (g.S.Inquiring.told c.args.search.now c.settle.new.self) c.args.inquirer.now
+    → InquiryStops file Keeps asks numbers old new c.args.inquirer.now error) c.finish.result
+    (λ error stops. all-end-stops c.file_grows.ensures.twice file Keeps asks (g.S.Inquiring.told c.args.search.now c.settle.new.self) c.args.inquirer.now
     c.put_first.new.self c.settle.new.inquirer c.args.line.now old mid late new error c.in_ok-put_first.ensures.grew c.put_first.ensures.rest
     c.in_ok-put_first.ensures.ok c.in_ok-settle.ensures.ok stops)
     c.finish.ensures.err

@@ -14,6 +14,7 @@ returns-in_err-done g c =
     let new : DeskView = g.D.Desk.view c.close-closed.new.desk in
     let file = g.S.Inquiring.file c.args.search.now in
     let Keeps = g.S.Inquiring.keeps c.args.search.now in
+    let asks = g.S.Inquiring.asks c.args.search.now in
     let Told = g.S.Inquiring.told c.args.search.now c.put_all-done.new.search in
     let done : IsDone c.args.name.now old mid late new
     = record {
@@ -22,9 +23,9 @@ returns-in_err-done g c =
       created = c.in_ok-create.ensures.ok;
       closed = c.close-closed.ensures.closed;
     } in
-    by-exit (λ (r : Result (Unit {0}) WorkError). InquiryAnswers file Keeps Told c.args.numbers.now c.args.inquirer.now c.args.name.now old new r)
+    by-exit (λ (r : Result (Unit {0}) WorkError). InquiryAnswers file Keeps asks Told c.args.numbers.now c.args.inquirer.now c.args.name.now old new r)
     c.from_residual-in_err-done.result c.in_err-done.field-0.0 c.from_residual-in_err-done.ensures.1
-    (file-stopped file Keeps Told c.args.numbers.now c.args.inquirer.now c.args.name.now old mid late new c.in_err-done.field-0.0 done
+    (file-stopped file Keeps asks Told c.args.numbers.now c.args.inquirer.now c.args.name.now old mid late new c.in_err-done.field-0.0 done
     (c.in_err-done.ensures.err c.args.numbers.now (c.deref.ensures.value ∙ c.in_ok-line.ensures.value)))
 
 pub returns : goal.returns
@@ -35,6 +36,7 @@ returns g c =
     let new : DeskView = g.D.Desk.view c.close-closed.new.desk in
     let file = g.S.Inquiring.file c.args.search.now in
     let Keeps = g.S.Inquiring.keeps c.args.search.now in
+    let asks = g.S.Inquiring.asks c.args.search.now in
     let Told = g.S.Inquiring.told c.args.search.now c.put_all-done.new.search in
     let done : IsDone c.args.name.now old mid late new
     = record {
@@ -43,5 +45,5 @@ returns g c =
       created = c.in_ok-create.ensures.ok;
       closed = c.close-closed.ensures.closed;
     } in
-    file-done file Keeps Told c.args.numbers.now c.args.inquirer.now c.args.name.now old mid late new c.close-closed.result done
+    file-done file Keeps asks Told c.args.numbers.now c.args.inquirer.now c.args.name.now old mid late new c.close-closed.result done
     (c.in_ok-done.ensures.ok c.args.numbers.now (c.deref.ensures.value ∙ c.in_ok-line.ensures.value)) c.close-closed.ensures.cause

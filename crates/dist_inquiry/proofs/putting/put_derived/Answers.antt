@@ -1,4 +1,4 @@
-use Rattle.std.proofs.Common.{◌≡◌, ◌++◌, [], ◌∷◌, ◌∙◌, Result, IfErr, List, ap, sym, subst, append_assoc, take, drop, length, arith, ◌<◌, suc}
+use Rattle.std.proofs.Common.{◌≡◌, ◌++◌, [], ◌∷◌, ◌∙◌, Result, IfErr, List, ap, sym, subst, append_assoc, take, drop, length, arith, ◌<◌, refl, suc}
 use Rattle.dist_outside.specs.DeskView.{DeskView, FileGrew}
 use Rattle.dist_outside.specs.Files.{IsWriting}
 use Rattle.dist_outside.specs.declared.trouble.WorkError.{WorkError}
@@ -7,13 +7,14 @@ use Rattle.dist_cert.specs.declared.records.CertRecord.{CertRecord}
 use Rattle.dist_cert.specs.Form.{record_text}
 use Rattle.dist_cert.specs.FileLines.{lines_text}
 use Rattle.dist_cert.specs.Writing.{ended}
-use Rattle.dist_inquiry.specs.Inquiry.{IsWriter, PutAllStops}
+use Rattle.dist_inquiry.specs.Inquiry.{IsWriter, NoQuestion, OnlyThis, PutAllStops}
 use Rattle.dist_sweep.specs.Script.{KeepsLines}
 use Rattle.dist_sweep.specs.Words.{derived_line, derived_lines}
+use Rattle.dist_inquiry.proofs.Answered.{only-derived}
 use Rattle.dist_inquiry.proofs.Lists.{map-more, map-split}
 use Rattle.dist_inquiry.proofs.DerivedLines.{next-at}
 use Rattle.dist_sweep.specs.LineLaws.{keeps-front}
-use Rattle.dist_inquiry.specs.InquiryLaws.{stops-after}
+use Rattle.dist_inquiry.specs.InquiryLaws.{no-question, none-asked, stops-after, stops-wider}
 use Rattle.dist_sweep.specs.ScriptLaws.{by-exit, two-grow, lines-more, one-line}
 use Rattle.dist_inquiry.proofs.putting.put_derived.Goals as goal
 
@@ -26,13 +27,17 @@ returns-in_err-put_derived_at-clause-err g c =
     let derived : List DerivedLine = c.args.derived.now in
     let place = c.loop-place.place in
     let front : List CertRecord = derived_lines clauses (take place derived) in
+    let line : CertRecord = derived_line clauses (line_at derived place) in
+    let error : WorkError = c.in_err-put_derived_at.field-0.0 in
     let within : place < length derived = omega arith in
     by-exit (λ (r : Result (Unit {0}) WorkError). IfErr r (PutAllStops c.args.writer.now (derived_lines clauses derived) old new)) c.from_residual.result
-    c.in_err-put_derived_at.field-0.0 c.from_residual.ensures.1
-    (λ h before writer all kept. stops-after c.file_grows.ensures.twice h before front old mid new c.in_err-put_derived_at.field-0.0 c.loop-place.invariant.grew
+    error c.from_residual.ensures.1
+    (λ h before writer all kept. stops-after c.file_grows.ensures.twice h NoQuestion before front old mid new error c.loop-place.invariant.grew
+    (none-asked NoQuestion before front (only-derived clauses (take place derived)))
+    (stops-wider h (OnlyThis (before ++ front) line) NoQuestion (no-question (before ++ front) line refl) (before ++ front) mid new error
     (c.in_err-put_derived_at.ensures.err h (before ++ front) (c.loop-place.invariant.more h before writer all kept)
-    (next-at h before (derived_lines clauses derived) front (derived_line clauses (line_at derived place)) (derived_lines clauses (drop (suc place) derived))
-    (map-split (derived_line clauses) derived place (record { line = 0; hints = [] }) within) all)))
+    (next-at h before (derived_lines clauses derived) front line (derived_lines clauses (drop (suc place) derived))
+    (map-split (derived_line clauses) derived place (record { line = 0; hints = [] }) within) all))))
 
 pub returns-in_err-put_derived_at-clause-grows : goal.returns-in_err-put_derived_at-clause-grows
 returns-in_err-put_derived_at-clause-grows g c =
