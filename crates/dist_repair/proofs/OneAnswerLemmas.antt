@@ -108,7 +108,10 @@ module _ (one : ClausesAreOne) (s : SpaceView) where
   one-what : (first second : What) → work.TooLarge first ≡ work.TooLarge second → first ≡ second
   one-what first second same = cc
 
-  one-error : (first second : WorkError) → Err {T = ClauseList} first ≡ Err second → first ≡ second
+  abbrev failed : WorkError → Result ClauseList WorkError
+  failed error = Err error
+
+  one-error : (first second : WorkError) → failed first ≡ failed second → first ≡ second
   one-error first second same = cc
 
   -- the number that is passed first is told of the clauses, but for want of memory
