@@ -1,10 +1,9 @@
 -- What the question at the lower bound decides.
-use Rattle.std.proofs.Common.{◌≡◌, ◌⊎◌, inl, inr, ℕ, ◌+◌, ◌<◌, ◌≤◌, ◌==◌, ◌||◌, ◌&&◌, Bool, true, false, List, [], ◌∷◌, ◌++◌, Option, Some, None, length}
-use Rattle.std.proofs.Common.{sym, subst, ◌∙◌, ap, arith, slice_get, refl}
+use Rattle.std.proofs.Common.{◌≡◌, ◌⊎◌, inl, inr, ℕ, ◌+◌, ◌≤◌, ◌==◌, ◌||◌, ◌&&◌, Bool, true, List, [], ◌∷◌, ◌++◌, Option, Some, None, length}
+use Rattle.std.proofs.Common.{sym, subst, ◌∙◌, ap, arith, slice_get}
 use Rattle.std.specs.Prelude.{All, Contains, nat_lt}
 use Rattle.std.proofs.lemmas.Bool.{and_from, cond-false, cond-true, eq-eqb, le-ltb, or_left, or_right}
-use Rattle.std.proofs.lemmas.List.Elements.{Contains-append_left, Contains-append_right, Contains-push}
-use Rattle.dist_base.specs.ListLaws.{element-at}
+use Rattle.std.proofs.lemmas.List.Elements.{Contains-append_left, Contains-push}
 use Rattle.dist_clause.specs.Formula.{Literal}
 use Rattle.dist_cert.specs.Form.{Word}
 use Rattle.dist_cert.specs.Rising.{is_among}
@@ -14,9 +13,9 @@ use Rattle.dist_space.specs.Space.{IsSpace, SpaceView}
 use Rattle.dist_findings.specs.SoundLaws.{IsSound}
 use Rattle.dist_findings.specs.declared.finding.Finding.{Finding}
 use Rattle.dist_findings.specs.declared.finding.Finding.TheVariants.{Refuted, LeftUndecided, Installed}
-use Rattle.dist_repair.specs.Answered.{Asked, AsksAlone, AsksAt, IsLeft, IsLower, IsRefuted, IsUpper, beyond, installed, installed_in, moved_in, own}
+use Rattle.dist_repair.specs.Answered.{Asked, AsksAlone, AsksAt, IsLeft, IsLower, IsRefuted, IsUpper, installed, installed_in, moved_in, own}
 use Rattle.dist_repair.specs.Counters.{CountedModelsTell, ModelsTellMoves, counted_clauses}
-use Rattle.dist_repair.specs.NotesPrivate.{AreNotesOf, NotesView, ends_by, has_answer, is_at_end}
+use Rattle.dist_repair.specs.NotesPrivate.{AreNotesOf, NotesView, ends_by, is_at_end}
 use Rattle.dist_repair.specs.RepairFiles.{IsDecided}
 use Rattle.dist_repair.specs.Searched.{IsBegun, IsFoundAt}
 use Rattle.dist_repair.proofs.AnswerLemmas.{answer-decides, end-left, end-past, fewest, one-lower}

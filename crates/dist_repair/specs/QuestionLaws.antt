@@ -1,5 +1,5 @@
 -- A question of a repair's file is one of these alone. Proofs cite these laws, those of the crates above too.
-use Rattle.std.proofs.Common.{◌≡◌, inl, inr, ℕ, ◌+◌, List, [], ◌∷◌, length, get_or, sym, ap, ◌∙◌, arith}
+use Rattle.std.proofs.Common.{◌≡◌, inl, inr, ℕ, List, length, get_or, sym, ap, ◌∙◌, arith}
 use Rattle.std.proofs.lemmas.Bool.{false≢true, true≢false}
 use Rattle.dist_cert.specs.ClaimRules.{no}
 use Rattle.dist_cert.specs.Form.{Word}
