@@ -1,7 +1,7 @@
 -- Worked examples: the text on the first of two packages from one source, which has moved to 2, and where nothing is
 -- known. The text goes by the repository, its clusters, their classes and the variables alone.
 use Rattle.std.specs.Fmt.{digits}
-use Rattle.std.specs.Prelude.{◌≡◌, true, false, [], ◌∷◌, ◌++◌, None, Some, codes, refl}
+use Rattle.std.specs.Prelude.{◌≡◌, true, false, [], ◌∷◌, None, Some, codes, refl}
 use Rattle.dist_classes.specs.declared.class_value.Class.TheVariants.{Point}
 use Rattle.dist_repair.specs.declared.repair.Repair.TheVariants.{Outdated, Least, AtLeast}
 use Rattle.dist_space.specs.Space.{SpaceView}

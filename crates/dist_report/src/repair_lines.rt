@@ -27,12 +27,7 @@ fn class_under(space: &Space, values: &Assignment, cluster: u32) -> Option<u32>
 }
 
 /// Adds the line of a cluster that moves to a class.
-fn write_move(
-    out: &mut Vec<u8>,
-    space: &Space,
-    cluster: u32,
-    class: u32,
-) -> Result<(), AllocError>
+fn write_move(out: &mut Vec<u8>, space: &Space, cluster: u32, class: u32) -> Result<(), AllocError>
     requires { class < length (cluster_classes space.now cluster) }
     ensures { OnOk result (out.new.items ≡ out.old.items ++ move_line space.now cluster class) }
 {

@@ -1,4 +1,4 @@
-use Rattle.std.proofs.Common.{ℕ, length, sym, ap, ◌∙◌, arith, below_more}
+use Rattle.std.proofs.Common.{length, sym, ap, ◌∙◌, arith, below_more}
 use Rattle.dist_clause.specs.Formula.{value_of}
 use Rattle.dist_space.specs.Space.{cluster_classes, variable_of}
 use Rattle.dist_space.specs.declared.meaning.Meaning.TheVariants.{At}
