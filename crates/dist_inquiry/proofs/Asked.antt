@@ -1,7 +1,7 @@
 -- A question with all its lines.
-use Rattle.std.proofs.Common.{◌≡◌, ◌≢◌, ℕ, ◌<◌, ◌≤◌, ◌^◌, ◌++◌, Bool, false, List, [], ◌∷◌, length, refl, ap, sym, subst, ◌∙◌, append_assoc, append-nil, arith}
+use Rattle.std.proofs.Common.{◌≡◌, ◌≢◌, ℕ, ◌<◌, ◌≤◌, ◌^◌, ◌++◌, false, List, [], ◌∷◌, refl, ap, sym, subst, ◌∙◌, append_assoc, append-nil, arith}
 use Rattle.std.proofs.Common.{Ok}
-use Rattle.std.specs.List.{All, list_any}
+use Rattle.std.specs.List.{list_any}
 use Rattle.std.proofs.lemmas.List.Elements.{All-map}
 use Rattle.dist_clause.specs.Formula.{Literal, literal, IsClauseOver, IsModel, value_of}
 use Rattle.dist_derive.specs.ClauseLog.{ClauseLog, inputs_of}
@@ -19,7 +19,7 @@ use Rattle.dist_cert.specs.FileLines.{lines_text}
 use Rattle.dist_cert.specs.Writing.{WriterView, ended}
 use Rattle.dist_inquiry.specs.Asking.{AskMore, AskStops, IsAt, IsLogAt, MayDerive, Says}
 use Rattle.dist_sweep.specs.Asking.{AskerView, IsOver}
-use Rattle.dist_inquiry.specs.Inquiry.{Asks, IsLine, NoQuestion, OnlyThis, Setting, IsWriter, PutMore, PutStops, Stops, matter_in}
+use Rattle.dist_inquiry.specs.Inquiry.{Asks, IsLine, NoQuestion, OnlyThis, Setting, IsWriter, PutMore, PutStops, matter_in}
 use Rattle.dist_sweep.specs.Words.{closing_line}
 use Rattle.dist_cert.specs.ListLaws.{pairs-map}
 use Rattle.dist_sweep.specs.LineLaws.{keeps-same, derived-append, none-ended}

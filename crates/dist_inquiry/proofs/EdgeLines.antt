@@ -13,8 +13,7 @@ use Rattle.dist_cert.specs.Form.{record_text}
 use Rattle.dist_cert.specs.PartByRecordsLaws.{IsShortLine}
 use Rattle.dist_cert.specs.Writing.{WriterView, HasRoom, PutAnswers, WritesNothing, ended, after_line}
 use Rattle.dist_sweep.specs.ScriptLaws.{BeginsLaw}
-use Rattle.dist_sweep.specs.Sweeping.{new_writer}
-use Rattle.dist_inquiry.specs.Edges.{EndMore, EndStops, FirstMore, FirstStops, IsEnded, LineStopsBy, StopsIn}
+use Rattle.dist_inquiry.specs.Edges.{EndMore, EndStops, FirstMore, FirstStops, LineStopsBy, StopsIn}
 use Rattle.dist_inquiry.specs.Inquiry.{Setting}
 use Rattle.dist_inquiry.proofs.OneLine.{last-any, short-line, text-more}
 

@@ -8,13 +8,12 @@ use Rattle.dist_clause.specs.Formula.{Literal, negation, IsClauseOver}
 use Rattle.dist_derive.specs.Follows.{IsNumberOf, EndsFalse, Follows}
 use Rattle.dist_derive.specs.New.{EachIsNew, IsNew}
 use Rattle.dist_cert.specs.declared.faults.CertCause.{CertCause}
-use Rattle.dist_cert.specs.declared.records.CertKind.{CertKind}
 use Rattle.dist_cert.specs.declared.records.CertRecord.{CertRecord}
 use Rattle.dist_cert.specs.declared.records.CertRecord.TheVariants.{Question, Derived, Refuted, Installation}
 use Rattle.dist_cert.specs.declared.records.CertRecord.TheVariants.{Undecided}
 use Rattle.dist_cert.specs.Form.{Word, AreLiterals, IsSmall, plains, is_end}
 use Rattle.dist_cert.specs.Groups.{clause_of, derived, numbered}
-use Rattle.dist_cert.specs.LineRules.{HasRecordFault, IsNoFuture}
+use Rattle.dist_cert.specs.LineRules.{HasRecordFault}
 use Rattle.dist_cert.specs.Part.{AsksSome, IsAsking}
 use Rattle.dist_cert.specs.GroupLaws.{one-open}
 use Rattle.dist_sweep.specs.Asking.{IsOver}

@@ -1,6 +1,6 @@
 -- A question that was asked and noted.
-use Rattle.std.proofs.Common.{◌≡◌, ℕ, List, [], ◌∷◌, ◌++◌, Result, IfErr, OnOk, refl, sym, subst, append-nil}
-use Rattle.dist_outside.specs.DeskView.{DeskView, FileGrew}
+use Rattle.std.proofs.Common.{◌≡◌, ℕ, List, [], ◌∷◌, ◌++◌, refl, subst}
+use Rattle.dist_outside.specs.DeskView.{DeskView}
 use Rattle.dist_outside.specs.declared.trouble.WorkError.TheVariants.{NoMemory}
 use Rattle.dist_solver.specs.declared.answers.Answer.{Answer}
 use Rattle.dist_cert.specs.declared.records.CertRecord.{CertRecord}
@@ -11,7 +11,7 @@ use Rattle.dist_findings.specs.declared.finding.Finding.{Finding}
 use Rattle.dist_sweep.specs.Asking.{AskerView, question_lines}
 use Rattle.dist_sweep.specs.ScriptLaws.{BeginsLaw, TwiceLaw}
 use Rattle.dist_sweep.specs.Words.{closing_line}
-use Rattle.dist_inquiry.specs.AnswerText.{IsNotedAt, NoteMore, Noting, finding_of}
+use Rattle.dist_inquiry.specs.AnswerText.{NoteMore, Noting, finding_of}
 use Rattle.dist_inquiry.specs.Asking.{AskMore, AskStops}
 use Rattle.dist_inquiry.specs.Inquiry.{Asks, OnlyThis}
 use Rattle.dist_inquiry.specs.InquiryLaws.{question-asked, stops-after, stops-for-memory}

@@ -15,7 +15,7 @@ use Rattle.dist_cert.specs.Form.{record_text}
 use Rattle.dist_cert.specs.PartByRecordsLaws.{IsShortLine}
 use Rattle.dist_cert.specs.FileLines.{file_text, lines_text}
 use Rattle.dist_cert.specs.Writing.{WriterView, HasRoom, PutAnswers, WritesNothing, ended, after_line}
-use Rattle.dist_inquiry.specs.Inquiry.{IsLine, OnlyThis, Setting, AllNext, IsWriter, PutMore, PutStops, matter_in}
+use Rattle.dist_inquiry.specs.Inquiry.{IsLine, OnlyThis, Setting, AllNext, IsWriter, PutMore, PutStops}
 use Rattle.dist_sweep.specs.Script.{KeepsLines}
 use Rattle.dist_inquiry.specs.InquiryLaws.{asks-itself, stopped-here, stops-for-memory}
 use Rattle.dist_sweep.specs.ScriptLaws.{lines-more, one-line, BeginsLaw, by-exit}

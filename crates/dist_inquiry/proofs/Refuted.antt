@@ -1,5 +1,5 @@
 -- A question that given hints refute, with nothing derived.
-use Rattle.std.proofs.Common.{◌≡◌, ◌≢◌, ℕ, ◌<◌, ◌≤◌, ◌^◌, ◌+◌, ◌++◌, Bool, false, true, not, List, [], ◌∷◌, length, map, refl, ap, sym, subst, ◌∙◌}
+use Rattle.std.proofs.Common.{◌≡◌, ◌≢◌, ℕ, ◌<◌, ◌≤◌, ◌^◌, ◌++◌, Bool, false, true, not, List, [], ◌∷◌, length, map, refl, ap, sym, subst, ◌∙◌}
 use Rattle.std.proofs.Common.{append-nil, arith}
 use Rattle.std.specs.List.{All}
 use Rattle.std.specs.Prelude.{◌↔◌, IsTrue}
@@ -58,11 +58,11 @@ pub refuted-same : (log other : ClauseLog) (assumed others : List Literal) (hint
 refuted-same log other assumed others hints is are refuted =
     subst (λ (l : ClauseLog). IsRefutation l others hints) is (subst (λ (a : List Literal). IsRefutation log a hints) are refuted)
 
-pub exactly-same : (log other : ClauseLog) (assumed others : List Literal) (hints : List ℕ) (yes : Bool) → log ≡ other → assumed ≡ others
-    → IsTrue yes ↔ AreRefuted log assumed hints → IsTrue yes ↔ AreRefuted other others hints
-exactly-same log other assumed others hints yes is are both =
-    subst (λ (l : ClauseLog). IsTrue yes ↔ AreRefuted l others hints) is
-    (subst (λ (a : List Literal). IsTrue yes ↔ AreRefuted log a hints) are both)
+pub exactly-same : (log other : ClauseLog) (assumed others : List Literal) (hints : List ℕ) (told : Bool) → log ≡ other → assumed ≡ others
+    → IsTrue told ↔ AreRefuted log assumed hints → IsTrue told ↔ AreRefuted other others hints
+exactly-same log other assumed others hints told is are both =
+    subst (λ (l : ClauseLog). IsTrue told ↔ AreRefuted l others hints) is
+    (subst (λ (a : List Literal). IsTrue told ↔ AreRefuted log a hints) are both)
 
 -- ---- the line that closes the question
 

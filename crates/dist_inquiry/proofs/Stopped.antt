@@ -1,6 +1,6 @@
 -- A file from its first line to its end, and where it stops.
 use Rattle.std.proofs.Common.{◌≡◌, ◌⊎◌, inl, inr, ℕ, Result, Ok, Err, OnOk, IfErr, List, [], ◌∷◌}
-use Rattle.std.proofs.Common.{◌++◌, Option, Some, None, refl, ap, sym, subst, ◌∙◌, append_assoc, append-nil, arith, length}
+use Rattle.std.proofs.Common.{◌++◌, Some, None, refl, ap, sym, subst, ◌∙◌, append_assoc, append-nil}
 use Rattle.dist_base.specs.Ascii.{line_feed}
 use Rattle.dist_outside.specs.DeskView.{DeskView, FileGrew}
 use Rattle.dist_outside.specs.declared.limits.Limits.{Limits}
@@ -82,7 +82,7 @@ later-stopped twice g course old mid new error first stops = record {
 -- ---- in the end
 
 by-end : (g : Setting) (course : Course) (lines : List CertRecord) (cut : List ℕ) (old mid new : DeskView) (error : WorkError)
-    → Decided lines → (bytes : List ℕ) → FileGrew bytes old mid → FileGrew cut mid new
+    → course.Decided lines → (bytes : List ℕ) → FileGrew bytes old mid → FileGrew cut mid new
     → LineStopsBy g (lines ++ End ∷ []) cut mid new error → StoppedBy g course (Some lines) cut old new error
 by-end g course lines cut old mid new WriteFault decided bytes first grew by =
     rose-later old.write_faults mid.write_faults new.write_faults first.counts.write_faults_stand grew.counts.write_faults_stand by

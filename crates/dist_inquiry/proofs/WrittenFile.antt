@@ -1,20 +1,18 @@
 -- What is left of a file of one question, by the answer.
-use Rattle.std.proofs.Common.{◌≡◌, ⊎_elim, inl, inr, ℕ, ◌≤◌, List, [], ◌∷◌, ◌++◌, ◌∙◌, Option}
-use Rattle.std.proofs.Common.{Some, None, Result, Ok, Err, IfErr, refl, ap, sym, subst, append-nil, arith, length}
+use Rattle.std.proofs.Common.{inl, inr, ℕ, ◌≤◌, List, [], ◌∷◌, ◌++◌, ◌∙◌}
+use Rattle.std.proofs.Common.{Some, Result, Ok, Err, IfErr, refl, ap, sym, subst, append-nil, arith, length}
 use Rattle.std.proofs.lemmas.List.{take_all}
 use Rattle.dist_base.specs.Front.{IsFrontOf}
 use Rattle.dist_outside.specs.Counts.{Rose}
-use Rattle.dist_outside.specs.DeskView.{Closed, DeskView, FileGrew, Holds, NotCreated, WriteCounts}
+use Rattle.dist_outside.specs.DeskView.{Closed, DeskView, FileGrew, Holds}
 use Rattle.dist_outside.specs.Files.{Idle, IsNotWriting, Mode, Writing, where_told}
 use Rattle.dist_outside.specs.Reading.{DeskWriteCause}
-use Rattle.dist_outside.specs.declared.limits.Limits.{Limits}
 use Rattle.dist_outside.specs.declared.trouble.WorkError.{WorkError}
 use Rattle.dist_outside.specs.declared.trouble.WorkError.TheVariants.{ReadFault, WriteFault, TooLarge, NoMemory}
-use Rattle.dist_cert.specs.declared.records.CertRecord.{CertRecord}
 use Rattle.dist_cert.specs.declared.records.CertRecord.TheVariants.{End}
 use Rattle.dist_cert.specs.Form.{record_text}
 use Rattle.dist_cert.specs.Writing.{ended}
-use Rattle.dist_findings.specs.AnswerFiles.{AnswerFile, Inputs}
+use Rattle.dist_findings.specs.AnswerFiles.{AnswerFile}
 use Rattle.dist_findings.specs.Answers.{IsAnswered}
 use Rattle.dist_findings.specs.declared.finding.Finding.{Finding}
 use Rattle.dist_sweep.specs.Asking.{AskerView}

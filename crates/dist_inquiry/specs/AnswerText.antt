@@ -1,9 +1,7 @@
 -- The file of one question that is written: of which kind it is, what its lines find, and when it is a whole one.
-use Rattle.std.specs.Prelude.{◌≡◌, ℕ, ◌<◌, List, [], ◌∷◌, ◌++◌, length}
-use Rattle.dist_clause.specs.ClauseList.{ClauseList}
+use Rattle.std.specs.Prelude.{◌≡◌, ℕ, List, [], ◌∷◌, ◌++◌}
 use Rattle.dist_outside.specs.DeskView.{DeskView}
 use Rattle.dist_outside.specs.declared.limits.Limits.{Limits}
-use Rattle.dist_outside.specs.declared.trouble.WorkError.{WorkError}
 use Rattle.dist_solver.specs.declared.answers.Answer.{Answer}
 use Rattle.dist_solver.specs.declared.answers.Answer.TheVariants as answers
 use Rattle.dist_cert.specs.declared.records.CertRecord.{CertRecord}
@@ -18,7 +16,7 @@ use Rattle.dist_findings.specs.declared.finding.Finding.TheVariants as finding
 use Rattle.dist_sweep.specs.Asking.{AskerView, question_lines}
 use Rattle.dist_sweep.specs.Words.{closing_line, true_variables}
 use Rattle.dist_inquiry.specs.Asking.{IsAsked, IsAt}
-use Rattle.dist_inquiry.specs.Inquiry.{Setting, Stops}
+use Rattle.dist_inquiry.specs.Inquiry.{Setting}
 
 -- what a question finds
 abbrev pub finding_of : List Word → Answer → Finding
@@ -64,6 +62,7 @@ pub record IsAskedAndNoted {N : Type 0} (Noted : Noting N) (g : Setting) (number
       ≡ findings before ++ finding_of question answer ∷ []
   pub noted : Noted numbers (findings before ++ finding_of question answer ∷ []) notes
 
+-- where what is kept is noted, the question was asked and noted
 abbrev pub NoteMore : {N : Type 0} → Noting N → DeskView → DeskView → AskerView → AskerView → N → N → List Word
     → Answer → Type 0
 NoteMore Noted old new a b notes after question answer = (g : Setting) (numbers : List ℕ) (before : List CertRecord)

@@ -42,6 +42,7 @@ pub record IsSettled (file : AnswerFile) (asks : List ℕ → Asks) (Told : List
   pub decided : file.IsDecided numbers (findings lines)
   pub told : Told numbers (findings lines)
 
+-- where the search may begin, it comes to an answer
 abbrev pub SettleMore : AnswerFile → (Keeps : List ℕ → Type 0) → (asks : List ℕ → Asks)
     → (Told : List ℕ → List Finding → Type 0) → DeskView → DeskView → AskerView → AskerView → Type 0
 SettleMore file Keeps asks Told old new a b = (limits : Limits) (numbers : List ℕ) (basis : Inputs)
@@ -71,6 +72,7 @@ pub record IsInquired (file : AnswerFile) (asks : List ℕ → Asks) (Told : Lis
   pub answered : IsAnswered file limits text numbers (Told numbers)
   pub whole : IsWholeText (setting_of file limits basis numbers) (course_of file asks numbers) text
 
+-- where the search may begin and nothing was written, the whole text was
 abbrev pub InquiryMore : AnswerFile → (Keeps : List ℕ → Type 0) → (asks : List ℕ → Asks)
     → (Told : List ℕ → List Finding → Type 0) → (numbers : List ℕ) → DeskView → DeskView → AskerView → Type 0
 InquiryMore file Keeps asks Told numbers old new a = (limits : Limits) (basis : Inputs)

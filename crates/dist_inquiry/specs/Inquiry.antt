@@ -84,7 +84,7 @@ NoQuestion = λ before question. ⊥
 abbrev pub OnlyThis : List CertRecord → CertRecord → Asks
 OnlyThis lines step = λ before question. (before ≡ lines) × (step ≡ Question question)
 
--- the line may come next, and a question may be asked there
+-- the line may come next, and if it is a question, it may be asked
 abbrev pub MayCome : Setting → Asks → List CertRecord → CertRecord → Type 0
 MayCome g asks before step = IsLine g before step × MayAsk asks before step
 

@@ -67,7 +67,7 @@ pub record IsStopped (g : Setting) (course : Course) (old new : DeskView) (error
 
 -- ---- what it leaves of the file
 
--- The text is whole: the first line, lines that decide the answer, and the end.
+-- The text is whole: the first line, lines that ask what may be asked and decide the answer, and the end.
 pub record IsWholeText (g : Setting) (course : Course) (text : List ℕ) : Type 0 where
   pub lines : List CertRecord
   pub is : text ≡ whole_text g lines

@@ -203,11 +203,7 @@ fn put_refuted<D: Desk>(
 {
     file_grows();
     let numbers = hints.to_vec(alloc)?;
-    put_line(
-        writer,
-        desk,
-        &CertRecord::Refuted(Items::from_vec(numbers)),
-    )
+    put_line(writer, desk, &CertRecord::Refuted(Items::from_vec(numbers)))
 }
 
 impl Inquirer {

@@ -1,33 +1,36 @@
-use Rattle.std.proofs.Common.{Result, IfErr}
+use Rattle.std.proofs.Common.{◌∙◌, List, Bool, Result, IfErr, ap, rules}
 use Rattle.dist_outside.specs.DeskView.{DeskView}
 use Rattle.dist_outside.specs.declared.trouble.WorkError.{WorkError}
 use Rattle.dist_outside.specs.declared.trouble.WorkError.TheVariants.{NoMemory}
-use Rattle.dist_solver.specs.declared.answers.Answer.{Answer}
+use Rattle.dist_solver.specs.declared.answers.Answer.TheVariants.{Refuted}
+use Rattle.dist_cert.specs.Form.{Word}
+use Rattle.dist_findings.specs.declared.finding.Finding.TheVariants as finding
 use Rattle.dist_sweep.specs.ScriptLaws.{by-exit}
 use Rattle.dist_inquiry.specs.Asking.{AskStops}
 use Rattle.dist_inquiry.proofs.Noted.{asked-and-noted, stops-noted}
-use Rattle.dist_inquiry.proofs.noting.ask_and_note.Goals as goal
+use Rattle.dist_inquiry.proofs.noting.refute_and_note.Goals as goal
 
-pub returns-in_err-finding-clause-err : goal.returns-in_err-finding-clause-err
-returns-in_err-finding-clause-err g c =
+pub returns-in_err-literals-clause-err : goal.returns-in_err-literals-clause-err
+returns-in_err-literals-clause-err g c =
     let old : DeskView = g.D.Desk.view c.args.desk.now in
-    let new : DeskView = g.D.Desk.view c.ask.new.desk in
-    by-exit (λ (r : Result Answer WorkError). IfErr r (AskStops c.args.inquirer.now c.args.question.now old new)) c.from_residual-in_err-finding.result NoMemory
-    c.from_residual-in_err-finding.ensures.1
-    (stops-noted c.file_grows.ensures.begin c.file_grows.ensures.twice old new c.args.inquirer.now c.ask.new.self c.args.question.now
-    c.in_ok-answer.answer c.in_ok-answer.ensures.ok)
+    let new : DeskView = g.D.Desk.view c.refute.new.desk in
+    by-exit (λ (r : Result Bool WorkError). IfErr r (AskStops c.args.inquirer.now c.args.question.now old new)) c.from_residual-in_err-literals.result NoMemory
+    c.from_residual-in_err-literals.ensures.1
+    (stops-noted c.file_grows.ensures.begin c.file_grows.ensures.twice old new c.args.inquirer.now c.refute.new.self c.args.question.now
+    (Refuted c.args.hints.now) (c.in_ok-refuted.ensures.ok c.if-not-refuted.false))
 
 pub returns-in_err-note-clause-err : goal.returns-in_err-note-clause-err
 returns-in_err-note-clause-err g c =
     let old : DeskView = g.D.Desk.view c.args.desk.now in
-    let new : DeskView = g.D.Desk.view c.ask.new.desk in
-    by-exit (λ (r : Result Answer WorkError). IfErr r (AskStops c.args.inquirer.now c.args.question.now old new)) c.from_residual-in_err-note.result NoMemory
+    let new : DeskView = g.D.Desk.view c.refute.new.desk in
+    by-exit (λ (r : Result Bool WorkError). IfErr r (AskStops c.args.inquirer.now c.args.question.now old new)) c.from_residual-in_err-note.result NoMemory
     c.from_residual-in_err-note.ensures.1
-    (stops-noted c.file_grows.ensures.begin c.file_grows.ensures.twice old new c.args.inquirer.now c.ask.new.self c.args.question.now
-    c.in_ok-answer.answer c.in_ok-answer.ensures.ok)
+    (stops-noted c.file_grows.ensures.begin c.file_grows.ensures.twice old new c.args.inquirer.now c.refute.new.self c.args.question.now
+    (Refuted c.args.hints.now) (c.in_ok-refuted.ensures.ok c.if-not-refuted.false))
 
 pub returns-clause-ok : goal.returns-clause-ok
-returns-clause-ok g c =
-    asked-and-noted (g.A.Answering.noted c.args.answering.now) (g.D.Desk.view c.args.desk.now) (g.D.Desk.view c.ask.new.desk) c.args.inquirer.now
-    c.ask.new.self c.args.notes.now c.note.new.notes c.args.question.now c.in_ok-answer.answer c.in_ok-finding.finding c.in_ok-finding.ensures.value
-    c.in_ok-answer.ensures.ok c.in_ok-note.ensures
+returns-clause-ok g c told =
+    asked-and-noted (g.A.Answering.noted c.args.answering.now) (g.D.Desk.view c.args.desk.now) (g.D.Desk.view c.refute.new.desk) c.args.inquirer.now
+    c.refute.new.self c.args.notes.now c.note.new.notes c.args.question.now (Refuted c.args.hints.now) (finding.Refuted c.from_vec.result)
+    (ap (λ (words : List Word). finding.Refuted words) (c.from_vec.ensures ∙ search rules))
+    (c.in_ok-refuted.ensures.ok c.if-not-refuted.false) c.in_ok-note.ensures

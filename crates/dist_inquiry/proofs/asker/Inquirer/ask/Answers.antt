@@ -1,10 +1,9 @@
-use Rattle.std.proofs.Common.{◌∙◌, ◌^◌, ◌<◌, ℕ, List, Result, IfErr, ap, arith, sym, subst, Ok}
+use Rattle.std.proofs.Common.{◌∙◌, ◌^◌, ◌<◌, ℕ, List, Result, IfErr, ap, arith, sym, subst}
 use Rattle.dist_clause.specs.Formula.{Literal, IsClauseOver}
 use Rattle.dist_derive.specs.ClauseLog.{ClauseLog}
 use Rattle.dist_outside.specs.DeskView.{DeskView}
 use Rattle.dist_outside.specs.declared.trouble.WorkError.{WorkError}
 use Rattle.dist_outside.specs.declared.trouble.WorkError.TheVariants.{NoMemory}
-use Rattle.dist_solver.specs.Ask.{IsAnswer}
 use Rattle.dist_solver.specs.declared.answers.Answer.{Answer}
 use Rattle.dist_inquiry.specs.Asking.{AskStops}
 use Rattle.dist_sweep.specs.Asking.{AskerView, IsOver}

@@ -1,18 +1,17 @@
-use Rattle.std.proofs.Common.{◌≡◌, ◌∙◌, ◌^◌, ◌<◌, ℕ, List, Result, Bool, true, IfErr, ap, arith, length, refl, sym, subst}
-use Rattle.std.specs.Prelude.{◌↔◌, IsTrue}
+use Rattle.std.proofs.Common.{◌∙◌, ◌^◌, ◌<◌, ℕ, List, Result, Bool, IfErr, ap, arith, length, sym, subst}
 use Rattle.dist_clause.specs.Formula.{Literal, IsClauseOver}
 use Rattle.dist_derive.specs.ClauseLog.{ClauseLog}
+use Rattle.dist_derive.specs.Follows.{EachLineFollows}
 use Rattle.dist_outside.specs.DeskView.{DeskView}
 use Rattle.dist_outside.specs.declared.trouble.WorkError.{WorkError}
 use Rattle.dist_outside.specs.declared.trouble.WorkError.TheVariants.{NoMemory}
-use Rattle.dist_solver.specs.Ask.{IsRefutation}
 use Rattle.dist_solver.specs.declared.answers.Answer.TheVariants.{Refuted}
 use Rattle.dist_cert.specs.Groups.{clause_of}
 use Rattle.dist_sweep.specs.Asking.{AskerView, IsOver}
 use Rattle.dist_sweep.specs.ScriptLaws.{by-exit, two-grow}
 use Rattle.dist_inquiry.specs.Asking.{AskStops}
 use Rattle.dist_inquiry.proofs.Asked.{asked, clause-over, stops-at-answer, stops-at-question, stops-before}
-use Rattle.dist_inquiry.proofs.Refuted.{exactly-same, refuted-same, refutes-at-once}
+use Rattle.dist_inquiry.proofs.Refuted.{refuted-same, refutes-at-once}
 use Rattle.dist_inquiry.proofs.asker.Inquirer.refute.Goals as goal
 
 pub returns-in_err-assumptions-clause-err : goal.returns-in_err-assumptions-clause-err
@@ -27,6 +26,10 @@ are_refuted-requires-clause-assumptions g c =
     subst (λ (l : ClauseLog). IsClauseOver l.variables c.deref.result.now) (sym c.log-3.ensures.value)
     (subst (λ (ls : List Literal). IsClauseOver c.self.inside.solver.log.variables ls) (sym (c.deref.ensures.value ∙ c.in_ok-assumptions.ensures))
     (clause-over c.self.inside.solver.log.variables c.args.question.now over))
+
+pub are_refuted-requires-clause-lines_follow : goal.are_refuted-requires-clause-lines_follow
+are_refuted-requires-clause-lines_follow g c =
+    subst (λ (l : ClauseLog). EachLineFollows l.inputs l.clauses) (sym c.log-3.ensures.value) c.log-3.ensures.lines_follow
 
 pub returns-in_err-refuted-clause-err : goal.returns-in_err-refuted-clause-err
 returns-in_err-refuted-clause-err g c =
@@ -60,7 +63,7 @@ returns-in_err-put_refuted-clause-err g c =
     let few : length t.log.clauses < 2 ^ 32 = omega (arith, count, c.len-within.ensures.stated_total) in
     let over = subst (λ (v : AskerView). IsOver v.log.variables c.args.question.now) (sym c.self.view_is) c.requires.question in
     let refuted = refuted-same c.log-3.result.now t.log c.deref.result.now (clause_of c.args.question.now) hints c.log-3.ensures.value
-    (c.deref.ensures.value ∙ c.in_ok-assumptions.ensures) (c.in_ok-refuted.ensures.refuted c.if-not-refuted) in
+    (c.deref.ensures.value ∙ c.in_ok-assumptions.ensures) (c.in_ok-refuted.ensures.refuted c.if-not-refuted.false) in
     by-exit (λ (r : Result Bool WorkError). IfErr r (AskStops c.args.self.now c.args.question.now first last)) c.from_residual-in_err-put_refuted.result
     c.in_err-put_refuted.field-0.0 c.from_residual-in_err-put_refuted.ensures.1
     (stops-at-answer c.file_grows.ensures.twice t c.args.self.now t.log c.args.question.now first mid mid last c.put_question.new.writer
@@ -75,7 +78,7 @@ returns-in_err-put_refuted-clause-grows g c =
     (g.D.Desk.view c.put_question.new.desk) (g.D.Desk.view c.put_refuted.new.desk) c.put_question.ensures.grows.1 c.put_refuted.ensures.grows.1
 
 pub returns-clause-ok : goal.returns-clause-ok
-returns-clause-ok g c yes =
+returns-clause-ok g c told =
     let t : AskerView = record { log = c.self.inside.solver.log; writer = c.self.inside.writer; limit = c.self.inside.limit } in
     let first : DeskView = g.D.Desk.view c.args.desk.now in
     let mid : DeskView = g.D.Desk.view c.put_question.new.desk in
@@ -87,7 +90,7 @@ returns-clause-ok g c yes =
     let few : length t.log.clauses < 2 ^ 32 = omega (arith, count, c.len-within.ensures.stated_total) in
     let over = subst (λ (v : AskerView). IsOver v.log.variables c.args.question.now) (sym c.self.view_is) c.requires.question in
     let refuted = refuted-same c.log-3.result.now t.log c.deref.result.now (clause_of c.args.question.now) hints c.log-3.ensures.value
-    (c.deref.ensures.value ∙ c.in_ok-assumptions.ensures) (c.in_ok-refuted.ensures.refuted c.if-not-refuted) in
+    (c.deref.ensures.value ∙ c.in_ok-assumptions.ensures) (c.in_ok-refuted.ensures.refuted c.if-not-refuted.false) in
     asked c.file_grows.ensures.twice t c.args.self.now t.log c.args.question.now first mid mid last c.put_question.new.writer
     c.put_question.new.writer c.put_refuted.new.writer (Refuted hints) c.self.view_is fits over
     c.in_ok-put_question.ensures.grew c.in_ok-put_question.ensures.ok
