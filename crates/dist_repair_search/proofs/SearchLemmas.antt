@@ -1,5 +1,5 @@
 -- All questions, one after another, and the file that they make.
-use Rattle.std.proofs.Common.{◌≡◌, ◌≢◌, inl, inr, ℕ, ◌+◌, ◌<◌, ◌≤◌, List, [], ◌∷◌, ◌++◌, refl, sym, ap, subst, ◌∙◌, arith, append_assoc, append-nil}
+use Rattle.std.proofs.Common.{◌≡◌, ◌≢◌, inl, inr, Result, Ok, Err, IfErr, ℕ, ◌+◌, ◌<◌, ◌≤◌, List, [], ◌∷◌, ◌++◌, refl, sym, ap, subst, ◌∙◌, arith, append_assoc, append-nil}
 use Rattle.std.specs.Prelude.{All}
 use Rattle.std.proofs.lemmas.List.Elements.{All-cons, All-nil}
 use Rattle.dist_clause.specs.Formula.{Literal}
@@ -200,3 +200,8 @@ module _ (s : SpaceView) (w : WordsView) (n : NotesView) (old new : DeskView) (a
   pub settle-stops : (error : WorkError) → AloneStops s w n old new a error → SettleStops (repair_files s) KeepsAt (repair_asks s) old new a error
   settle-stops error stops limits numbers basis may =
       stops limits numbers basis (record { right = may.right; words = may.keeps.0 }) (begins s limits numbers basis KeepsAt a n may may.keeps.1)
+
+  pub stops-by : (result : Result (Unit {0}) WorkError) → IfErr result (AloneStops s w n old new a)
+      → IfErr result (SettleStops (repair_files s) KeepsAt (repair_asks s) old new a)
+  stops-by (Ok done) given = tt
+  stops-by (Err error) given = settle-stops error given

@@ -27,7 +27,7 @@ header_with limit number most = record { limit = limit; «package» = number; mo
 -- the numbers of its first line
 abbrev pub first_numbers : SpaceView → RepairHeader → Inputs → List ℕ
 first_numbers s h basis = h.limit ∷ length s.repository.packages ∷ basis.variables ∷ length basis.clauses
-    ∷ h.«package» + 1 ∷ h.most ∷ []
+    ∷ (h.«package» + 1) ∷ h.most ∷ []
 
 -- what is said of such a file, by what it is judged by
 abbrev pub OfRepair : SpaceView → RepairHeader → Limits → (Setting → Course → Type 0) → Type 0
