@@ -152,7 +152,7 @@ CHAPTERS = [
     ("Clauses, what follows, and what is new", ["dist_lanes", "dist_clause", "dist_derive"]),
     ("Files whose lines answer one question", ["dist_findings", "dist_inquiry"]),
     ("Explanations", ["dist_explain", "dist_explain_search"]),
-    ("Repairs", ["dist_repair"]),
+    ("Repairs", ["dist_repair", "dist_repair_search"]),
     ("Certificates", ["dist_cert"]),
     ("Files that are judged line by line", ["dist_judge"]),
     ("What certificates speak of, and what their claims mean", ["dist_subject", "dist_check"]),

@@ -1,22 +1,19 @@
 -- Names and lines that are written one after another, and the member by which a cluster goes.
-use Rattle.std.proofs.Common.{◌≡◌, ℕ, ◌+◌, ◌<◌, ◌≤◌, List, [], ◌∷◌, ◌++◌, append-nil, append_assoc, codes, length, get_or, take, Option, None, Some}
+use Rattle.std.proofs.Common.{◌≡◌, ℕ, ◌+◌, ◌<◌, ◌≤◌, List, [], ◌∷◌, ◌++◌, append-nil, append_assoc, codes, length, get_or, take, Some}
 use Rattle.std.proofs.Common.{arith, sym, ap, ◌∙◌, slice_get, subst}
 use Rattle.std.specs.Prelude.{◌==◌, Bool, Contains, if◌then◌else◌}
 use Rattle.std.specs.List.{flat_map, join_by}
-use Rattle.std.specs.Option.{option_map_or}
 use Rattle.std.proofs.lemmas.List.{flat_map_more, length-take-le, take_all, take_more}
 use Rattle.std.proofs.lemmas.List.Elements.{All-contains}
-use Rattle.std.proofs.lemmas.Option.{get_or_from_slice_get, slice_get_past, slice_get_within}
+use Rattle.std.proofs.lemmas.Option.{get_or_from_slice_get, slice_get_within}
 use Rattle.std.proofs.Math.Dec.{eqb-suc-zero}
 use Rattle.dist_base.specs.ListLaws.{contains-at, element-at}
-use Rattle.dist_cluster.specs.Partition.{least}
 use Rattle.dist_cluster.specs.Top.{ClusterList}
 use Rattle.dist_repo.specs.declared.package.Package.{Package}
 use Rattle.dist_space.specs.ClusterLaws.{in-package}
 use Rattle.dist_space.specs.Space.{IsFrame, SpaceView}
 use Rattle.dist_archive.specs.declared.step.Step.{Step}
-use Rattle.dist_report.specs.PackageText.{label}
-use Rattle.dist_history.specs.PlanText.{cluster_text, names_text, plan_text, step_text}
+use Rattle.dist_history.specs.PlanText.{names_text, plan_text, step_text}
 
 -- the first items with one more
 pub take-next : {X : Type 0} (xs : List X) (k : ℕ) (x : X) → slice_get xs k ≡ Some x → take (k + 1) xs ≡ take k xs ++ x ∷ []
@@ -88,12 +85,3 @@ module _ (s : SpaceView) (frame : IsFrame s) (clusters : ClusterList) (same : cl
       let within = slice_get_within s.repository.packages at.element of.package_is of.is in
       let first : get_or members 0 0 ≡ at.element = get_or_from_slice_get members 0 at.element 0 at.is in
       subst (λ (n : ℕ). n < length s.repository.packages) (sym first) within
-
--- no cluster has the number
-pub no-cluster : (s : SpaceView) (clusters : ClusterList) → clusters ≡ s.clusters → (cluster : ℕ) (bs : List ℕ) → length clusters.members ≤ cluster
-    → bs ≡ bs ++ cluster_text s cluster
-no-cluster s clusters same cluster bs past =
-    let none : slice_get s.clusters.members cluster ≡ None =
-    slice_get_past s.clusters.members cluster (subst (λ (c : ClusterList). length c.members ≤ cluster) same past) in
-    let told : List ℕ → List ℕ = λ list. option_map_or label (slice_get s.repository.packages (least list)) [] in
-    sym (ap (λ (o : Option (List ℕ)). bs ++ option_map_or told o []) none ∙ append-nil bs)

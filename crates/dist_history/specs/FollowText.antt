@@ -7,9 +7,8 @@ use Rattle.std.specs.Str.{bytes_eq}
 use Rattle.dist_cluster.specs.Partition.{least}
 use Rattle.dist_repo.specs.declared.package.Package.{Package}
 use Rattle.dist_space.specs.Space.{SpaceView}
-use Rattle.dist_report.specs.PackageText.{label}
+use Rattle.dist_report.specs.PackageText.{cluster_text, label}
 use Rattle.dist_journal.specs.declared.broken_list.Broken.{Broken}
-use Rattle.dist_history.specs.PlanText.{cluster_text}
 
 -- the version of the package that is held of a name, or nothing
 abbrev pub version_of_name : (archive : List Package) → (name : List ℕ) → List ℕ

@@ -3,18 +3,11 @@
 use Rattle.std.specs.Prelude.{ℕ, List, [], ◌++◌, codes, slice_get}
 use Rattle.std.specs.List.{flat_map, join_by}
 use Rattle.std.specs.Option.{option_map_or}
-use Rattle.dist_cluster.specs.Partition.{least}
 use Rattle.dist_repo.specs.declared.package.Package.{Package}
 use Rattle.dist_space.specs.Space.{SpaceView}
 use Rattle.dist_archive.specs.declared.step.Step.{Step}
 use Rattle.dist_archive.specs.declared.step.Step.TheVariants.{Upload, Removal, NewName}
-use Rattle.dist_report.specs.PackageText.{label}
-
--- the cluster of a number
-abbrev pub cluster_text : SpaceView → (cluster : ℕ) → List ℕ
-cluster_text s cluster =
-    option_map_or (λ members. option_map_or label (slice_get s.repository.packages (least members)) [])
-    (slice_get s.clusters.members cluster) []
+use Rattle.dist_report.specs.PackageText.{cluster_text, label}
 
 -- the names of packages, joined by a comma and a space
 abbrev pub names_text : List Package → List ℕ

@@ -4,10 +4,9 @@ ghost use Rattle.std.specs.Option.{option_map_or};
 ghost use Rattle.dist_report.specs.PackageText.{label};
 ghost use Rattle.dist_history.specs.FollowText.{broken_text, broken_texts, counts_text, held_version, version_of_name};
 
-use crate::step_lines::write_cluster;
 use dist_archive::Archive;
 use dist_journal::{Broken, BrokenList};
-use dist_report::print_label;
+use dist_report::{print_cluster, print_label};
 use dist_space::Space;
 use itoa::Buffer;
 use std::alloc::{AllocError, Global};
@@ -74,7 +73,7 @@ fn write_broken(out: &mut Vec<u8>, archive: &Archive, broken: &Broken) -> Result
     out.extend_from_slice(b"broken ")?;
     write_package(out, archive.space(), broken.package_)?;
     out.extend_from_slice(b" by ")?;
-    write_cluster(out, archive.space(), broken.cluster)?;
+    print_cluster(archive.space(), broken.cluster, out)?;
     out.extend_from_slice(b" at ")?;
     write_held_version(out, archive, broken.cluster)?;
     out.push(b'\n')?;

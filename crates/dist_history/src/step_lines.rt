@@ -1,34 +1,15 @@
 //! The line of each step.
 ghost use Rattle.std.specs.Prelude.{◌≡◌, ◌++◌, ◌==◌, [], OnOk, codes, if◌then◌else◌};
 ghost use Rattle.dist_archive.specs.declared.step.Step.TheVariants as kinds;
-ghost use Rattle.dist_history.specs.PlanText.{cluster_text, first_text, names_text, step_text};
+ghost use Rattle.dist_history.specs.PlanText.{first_text, names_text, step_text};
 
 use dist_archive::Step;
 use dist_relation::Name;
 use dist_repo::Repository;
-use dist_report::print_label;
+use dist_report::{print_cluster, print_label};
 use dist_space::Space;
 use dist_version::Version;
 use std::alloc::AllocError;
-
-/// Adds a cluster by its member that stands first, or nothing where no cluster has the number.
-pub(crate) fn write_cluster(
-    out: &mut Vec<u8>,
-    space: &Space,
-    cluster: u32,
-) -> Result<(), AllocError>
-    ensures { OnOk result (out.new.items ≡ out.old.items ++ cluster_text space.now cluster) }
-{
-    let clusters = space.clusters();
-    if cluster < clusters.len() {
-        // What this call tells is that it is a space.
-        let _variables = space.variables();
-        let members = clusters.members(cluster);
-        print_label(space.package(members[0]), out)
-    } else {
-        Ok(())
-    }
-}
 
 /// Adds a name, behind a comma and a space where it is not the first.
 fn write_name(out: &mut Vec<u8>, is_first: bool, name: &Name) -> Result<(), AllocError>
@@ -72,7 +53,7 @@ fn write_upload(
     ensures { OnOk result (out.new.items ≡ out.old.items ++ step_text space.now (kinds.Upload cluster version.now block.now)) }
 {
     out.extend_from_slice(b"upload ")?;
-    write_cluster(out, space, cluster)?;
+    print_cluster(space, cluster, out)?;
     out.extend_from_slice(b" at ")?;
     out.extend_from_slice(version.text())?;
     out.extend_from_slice(b": ")?;

@@ -1,0 +1,4 @@
+pub mod FoundLemmas
+pub mod StepLemmas
+pub mod SearchLemmas
+pub mod StartLemmas

@@ -1,0 +1,3 @@
+pub mod QuestionOrder
+pub mod SearchAnswers
+pub mod SearchPrivate

@@ -1,0 +1,80 @@
+//! The file of a repair.
+ghost use Rattle.std.specs.Prelude.{◌≡◌, ◌<◌, ◌≤◌, All, IfOk, length};
+ghost use Rattle.dist_base.specs.declared.TheConstants.{MAX_LIMIT};
+ghost use Rattle.dist_cert.specs.Form.{IsSmall};
+ghost use Rattle.dist_outside.specs.Files.{IsNotWriting};
+ghost use Rattle.dist_repair.specs.InputsPrivate.{inputs_of};
+ghost use Rattle.dist_repair.specs.Verdicts.{AcceptedSays};
+ghost use Rattle.dist_repair.specs.declared.TheConstants.{MAX_MOST};
+ghost use Rattle.dist_subject.specs.Limited.{AreStated};
+ghost use Rattle.dist_repair_search.specs.SearchAnswers.{SearchAnswers, TellsFirst, first_numbers, header_with};
+
+use crate::search::RepairSearch;
+use dist_clause::ClauseSet;
+use dist_findings::Answering;
+use dist_inquiry::{Inquirer, write_inquiry};
+use dist_outside::{Desk, Limits, WorkError};
+use dist_repair::{Repair, Repairing, accepted_repairs_hold, repair_inputs, words_of};
+use dist_space::Space;
+use std::alloc::{AllocError, Global};
+
+/// The numbers of the first line of a file on a package.
+fn first_numbers(
+    alloc: Global,
+    space: &Space,
+    set: &ClauseSet,
+    package: u32,
+    most: u32,
+    limit: u32,
+) -> Result<Vec<u32>, AllocError>
+    requires { «package» < length space.now.repository.packages }
+    ensures value { IfOk result (λ numbers. numbers.items ≡ first_numbers space.now (header_with limit «package» most) (inputs_of set.now)) }
+    ensures small { IfOk result (λ numbers. All IsSmall numbers.items) }
+{
+    let packages = space.package_count();
+    let numbers = [limit, packages, set.variables(), set.len(), package + 1, most];
+    Vec::from_slice(alloc, &numbers)
+}
+
+/// Writes a file on how many clusters must move so that a package can be installed, to the file of that name, and tells the
+/// answer. The package is numbered from 0; clusters are counted up to a most; so many derived lines leave a question undecided.
+///
+/// It asks at most as many questions as two more than the most, and each costs what the solver takes for it.
+pub fn repair<D: Desk>(
+    alloc: Global,
+    space: &Space,
+    package: u32,
+    most: u32,
+    desk: &mut D,
+    name: &str,
+    limit: u32,
+    limits: &Limits,
+) -> Result<Repair, WorkError>
+    requires idle { IsNotWriting (D.view desk.old).mode }
+    requires package { «package» < length space.now.repository.packages }
+    requires most { most ≤ MAX_MOST }
+    requires from_one { 1 ≤ limit }
+    requires upto { limit ≤ MAX_LIMIT }
+    requires limits { AreStated limits.now }
+    ensures answers { SearchAnswers space.now (header_with limit «package» most) limits.now name.now (D.view desk.old) (D.view desk.new) result }
+    ensures first { TellsFirst space.now most limits.now result }
+    ensures says { IfOk result (AcceptedSays space.now (header_with limit «package» most)) }
+{
+    accepted_repairs_hold();
+    let set = repair_inputs(alloc, space, most, limits)?;
+    // What these calls tell is that it is a space, and that the clauses are over its variables.
+    let _variables = space.variables();
+    let _count = set.len();
+    let numbers = first_numbers(alloc, space, &set, package, most, limit)?;
+    let repairing = Repairing { alloc, space };
+    let words = words_of(space, &numbers);
+    let notes = repairing.begin(alloc, &numbers)?;
+    let mut inquirer = Inquirer::new(alloc, set, limit, limits)?;
+    let mut search = RepairSearch {
+        repairing,
+        words,
+        notes,
+    };
+    write_inquiry(alloc, &mut search, &mut inquirer, &numbers, desk, name)?;
+    Ok(search.notes.answer())
+}

@@ -1,0 +1,147 @@
+//! The questions.
+ghost use Rattle.std.specs.Prelude.{◌≡◌, ◌≤◌, IfErr, OnOk};
+ghost use Rattle.dist_outside.specs.Files.{IsWriting};
+ghost use Rattle.dist_sweep.specs.Script.{Grows};
+ghost use Rattle.dist_repair_search.specs.SearchPrivate.{AloneMore, AloneStops, AreOver, NextMore, NextStops, SearchMore};
+
+use dist_findings::Answering;
+use dist_inquiry::{Inquirer, Inquiring, ask_and_note};
+use dist_outside::{Desk, WorkError, file_grows};
+use dist_repair::{Notes, Repairing, Words, questions_decide};
+
+/// The search, with what it has found.
+#[derive(Drop)]
+pub(crate) struct RepairSearch<'a> {
+    pub(crate) repairing: Repairing<'a>,
+    pub(crate) words: Words,
+    pub(crate) notes: Notes,
+}
+
+/// Asks for the package alone.
+fn ask_alone<D: Desk>(
+    repairing: &Repairing<'_>,
+    words: &Words,
+    notes: &mut Notes,
+    inquirer: &mut Inquirer,
+    desk: &mut D,
+) -> Result<(), WorkError>
+    requires writing { IsWriting (D.view desk.old).mode }
+    requires limit { 1 ≤ inquirer.old.limit }
+    requires over { AreOver inquirer.old.log.variables words.now }
+    ensures ok { OnOk result (AloneMore repairing.now.space.now words.now notes.old notes.new (D.view desk.old) (D.view desk.new) inquirer.old inquirer.new) }
+    ensures err { IfErr result (AloneStops repairing.now.space.now words.now notes.old (D.view desk.old) (D.view desk.new) inquirer.old) }
+    ensures variables { OnOk result (inquirer.new.log.variables ≡ inquirer.old.log.variables) }
+    ensures same_limit { OnOk result (inquirer.new.limit ≡ inquirer.old.limit) }
+    ensures grows { Grows (D.view desk.old) (D.view desk.new) }
+{
+    file_grows();
+    // What this call tells is that it is a space.
+    let _variables = repairing.space.variables();
+    let question = words.alone();
+    let _answer = ask_and_note(
+        repairing.alloc,
+        repairing,
+        inquirer,
+        notes,
+        desk,
+        &question,
+    )?;
+    Ok(())
+}
+
+/// Asks for the package where not more than so many clusters have moved, where the answer is not decided.
+fn ask_at<D: Desk>(
+    repairing: &Repairing<'_>,
+    words: &Words,
+    notes: &mut Notes,
+    inquirer: &mut Inquirer,
+    desk: &mut D,
+    number: u32,
+) -> Result<(), WorkError>
+    requires writing { IsWriting (D.view desk.old).mode }
+    requires limit { 1 ≤ inquirer.old.limit }
+    requires over { AreOver inquirer.old.log.variables words.now }
+    requires number { number ≤ words.now.most }
+    ensures ok { OnOk result (NextMore repairing.now.space.now words.now number notes.old notes.new (D.view desk.old) (D.view desk.new) inquirer.old inquirer.new) }
+    ensures err { IfErr result (NextStops repairing.now.space.now words.now number notes.old (D.view desk.old) (D.view desk.new) inquirer.old) }
+    ensures variables { OnOk result (inquirer.new.log.variables ≡ inquirer.old.log.variables) }
+    ensures same_limit { OnOk result (inquirer.new.limit ≡ inquirer.old.limit) }
+    ensures grows { Grows (D.view desk.old) (D.view desk.new) }
+{
+    file_grows();
+    questions_decide();
+    // What this call tells is that it is a space.
+    let _variables = repairing.space.variables();
+    let question = words.at(number);
+    let _answer = ask_and_note(
+        repairing.alloc,
+        repairing,
+        inquirer,
+        notes,
+        desk,
+        &question,
+    )?;
+    Ok(())
+}
+
+/// Asks for the package alone, and then where more and more clusters may move, until the answer is decided.
+fn ask_all<D: Desk>(
+    repairing: &Repairing<'_>,
+    words: &Words,
+    notes: &mut Notes,
+    inquirer: &mut Inquirer,
+    desk: &mut D,
+) -> Result<(), WorkError>
+    requires writing { IsWriting (D.view desk.old).mode }
+    requires limit { 1 ≤ inquirer.old.limit }
+    requires over { AreOver inquirer.old.log.variables words.now }
+    ensures ok { OnOk result (SearchMore repairing.now.space.now words.now notes.old notes.new (D.view desk.old) (D.view desk.new) inquirer.old inquirer.new) }
+    ensures err { IfErr result (AloneStops repairing.now.space.now words.now notes.old (D.view desk.old) (D.view desk.new) inquirer.old) }
+    ensures grows { Grows (D.view desk.old) (D.view desk.new) }
+{
+    file_grows();
+    questions_decide();
+    ask_alone(repairing, words, notes, inquirer, desk)?;
+    for number in 0..words.most() + 1 {
+        if repairing.is_decided(notes) {
+            return Ok(());
+        }
+        ask_at(repairing, words, notes, inquirer, desk, number)?;
+    }
+    Ok(())
+}
+
+impl<'a> Inquiring for RepairSearch<'a> {
+    ghost use Rattle.std.specs.Prelude.{◌≡◌, []};
+    ghost use Rattle.dist_repair.specs.Answered.{Answers};
+    ghost use Rattle.dist_repair.specs.NotesPrivate.{AreNotesOf, AreWordsOf, answer_of};
+    ghost use Rattle.dist_repair.specs.RepairFiles.{asked_by, repair_files};
+    ghost use Rattle.dist_repair_search.specs.QuestionOrder.{repair_asks};
+    ghost use Rattle.dist_repair_search.specs.SearchPrivate.{AreOver};
+
+    ghost file = { λ s. repair_files s.repairing.space.now };
+
+    ghost keeps = { λ s numbers. AreWordsOf s.repairing.space.now (asked_by numbers) s.words
+        × AreNotesOf s.repairing.space.now (asked_by numbers) [] s.notes };
+
+    ghost asks = { λ s numbers. repair_asks s.repairing.space.now numbers };
+
+    ghost told = { λ before after numbers found. Answers before.repairing.space.now (asked_by numbers) found (answer_of after.notes) };
+
+    ghost fits = { λ s n. AreOver n s.words };
+
+    fn front(&self) -> &[u8] {
+        self.repairing.front()
+    }
+
+    fn settle<D: Desk>(&mut self, inquirer: &mut Inquirer, desk: &mut D) -> Result<(), WorkError> {
+        questions_decide();
+        ask_all(
+            &self.repairing,
+            &self.words,
+            &mut self.notes,
+            inquirer,
+            desk,
+        )
+    }
+}
