@@ -7,10 +7,12 @@
 mod accepting;
 mod answer;
 mod cause_text;
+mod check_explain_command;
 mod check_command;
 mod claims;
 mod classes_command;
 mod command;
+mod explaining;
 mod fault_text;
 mod files;
 mod follow_command;

@@ -20,6 +20,7 @@ mod verdict;
 pub use explained::Explained;
 pub use file::check_explained;
 pub use laws::{accepted_explanations_hold, explanations_have_one_answer, selectors_explain};
+pub use listed::put_in_order;
 pub use relations::{Relation, relations_of};
 pub use selected::with_selectors;
 pub use verdict::{ExplainHeader, ExplainVerdict};

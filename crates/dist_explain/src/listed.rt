@@ -63,7 +63,7 @@ pub(crate) fn put(numbers: &mut Vec<u32>, number: u32) -> Result<(), AllocError>
 }
 
 /// Puts numbers in their order, each once.
-pub(crate) fn put_in_order(numbers: &mut Vec<u32>)
+pub fn put_in_order(numbers: &mut Vec<u32>)
     ensures rising { AreRising numbers.new.items }
     ensures same { (one : ℕ) → Contains numbers.new.items one ↔ Contains numbers.old.items one }
 {

@@ -1,9 +1,15 @@
-use Rattle.std.proofs.Common.{ℕ, List, Ok, subst}
+use Rattle.std.proofs.Common.{ℕ, List, Ok, Err, inl, inr, sym, subst}
 use Rattle.dist_outside.specs.DeskView.{DeskView}
 use Rattle.dist_outside.specs.Files.{file_bytes}
 use Rattle.dist_check.specs.Answers.{Answers, VerdictMeans}
 use Rattle.dist_judge.specs.Judging.{OfText}
+use Rattle.dist_cert.specs.declared.faults.ReadCertError.TheVariants.{Bad}
 use Rattle.dist_check.specs.declared.verdict.Verdict.{Verdict}
+use Rattle.dist_app.specs.Check.{CertificateAnswers, CertificateStage}
+use Rattle.dist_app.specs.DuePrivate.{IsDue}
+use Rattle.dist_app.specs.Stages.{Ends}
+use Rattle.dist_app.specs.declared.refusal.Refusal.{Refusal}
+use Rattle.dist_app.proofs.Judgements.{check_due}
 use Rattle.dist_app.proofs.accepting.accept.Goals as goal
 
 pub returns-in-Ok-Accepted-clause-goes : goal.returns-in-Ok-Accepted-clause-goes
