@@ -101,7 +101,8 @@ module _ (limits : Limits) (packages cert : List ℕ) (result : Status) (desk de
 
   pub check_proves : CheckStages desk.files limits packages cert (Reports desk.files) ending → ProvesCheck limits packages cert result desk desk' out out'
   check_proves (inl ends) = absurd (refusal_not_carried_out desk.files ending (packages_refuses desk.files limits packages ending ends) carried)
-  check_proves (inr (r, goes, inl ends)) = absurd (refusal_not_carried_out desk.files ending (check_refuses (CertificateAnswers r limits) desk.files cert ending ends) carried)
+  check_proves (inr (r, goes, inl ends)) =
+      absurd (refusal_not_carried_out desk.files ending (check_refuses (CertificateAnswers r limits) desk.files cert ending ends) carried)
   check_proves (inr (r, goes, inr (accepted, judged, reports))) = accepted_proves r accepted goes judged reports
 
 -- ---- `check-explain`

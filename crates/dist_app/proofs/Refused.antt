@@ -239,7 +239,8 @@ command_status (Sweep kind packages cert essential limit) files limits ending (i
 command_status (Sweep kind packages cert essential limit) files limits ending (inr (r, goes, inr (_, kept, inr stopped))) =
     subst (λ (e : Ending). IsOfFiles e.status) (sym stopped.is) tt
 command_status (Check packages cert) files limits ending (inl p) = refusal_status files ending (packages_refuses files limits packages ending p)
-command_status (Check packages cert) files limits ending (inr (r, goes, inl c)) = refusal_status files ending (check_refuses (CertificateAnswers r limits) files cert ending c)
+command_status (Check packages cert) files limits ending (inr (r, goes, inl c)) =
+    refusal_status files ending (check_refuses (CertificateAnswers r limits) files cert ending c)
 command_status (Check packages cert) files limits ending (inr (r, goes, inr (accepted, judged, reports))) =
     subst (λ (e : Ending). IsOfFiles e.status) (sym reports.is) (mark_of_files (list_any has_mark accepted.1))
 command_status (CheckExplain packages cert) files limits ending (inl p) = refusal_status files ending (packages_refuses files limits packages ending p)
