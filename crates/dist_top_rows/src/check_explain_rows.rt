@@ -10,7 +10,9 @@ pub const ENEMIES: &str =
 pub const EXPLAINED: Row = Row {
     words: &["check-explain", "packages", "cert"],
     packages: ENEMIES,
-    cert: Some("distfuture-explain 1 10000 2 2 1\nq 1 3 4\nf 1 2\nq 1 4\nm 1 4\nq 1 3\nm 1 2 3\ne\n"),
+    cert: Some(
+        "distfuture-explain 1 10000 2 2 1\nq 1 3 4\nf 1 2\nq 1 4\nm 1 4\nq 1 3\nm 1 2 3\ne\n",
+    ),
     out: "package a=1\nbroken\nneeds a=1: b\napart a=1 b=1\n",
     ..EMPTY
 };
