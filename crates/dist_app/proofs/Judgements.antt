@@ -11,7 +11,7 @@ use Rattle.dist_cert.specs.declared.faults.ReadCertError.TheVariants.{Bad, Work}
 use Rattle.dist_judge.specs.Causes.{OnceRead, TextCause}
 use Rattle.dist_judge.specs.Judging.{OfText}
 use Rattle.dist_app.specs.CheckedFile.{CheckStage, IsEndOfError, IsJudged, IsOfText, IsOneAnswer}
-use Rattle.dist_app.specs.Complete.{IsStatusOfFile, IsStatusOfRefused, answer_status, error_status}
+use Rattle.dist_app.specs.Complete.{IsStatusOfFile, IsStatusOfRefused, error_status}
 use Rattle.dist_app.specs.DuePrivate.{IsDue}
 use Rattle.dist_app.specs.Refusal.{refusal_of}
 use Rattle.dist_app.specs.Stages.{Ending, Goes, Ends, IsDetermined, Then}

@@ -7,8 +7,8 @@
 mod accepting;
 mod answer;
 mod cause_text;
-mod check_explain_command;
 mod check_command;
+mod check_explain_command;
 mod claims;
 mod classes_command;
 mod command;
