@@ -1,4 +1,4 @@
--- The end of an accepted certificate.
+-- The end of an accepted certificate, and of an accepted file of an explanation.
 use Rattle.std.proofs.Common.{◌≡◌, ℕ, List, inr, Option, refl}
 use Rattle.dist_outside.specs.Files.{Files}
 use Rattle.dist_outside.specs.declared.limits.Limits.{Limits}
@@ -6,7 +6,12 @@ use Rattle.dist_repo.specs.PackageList.{PackageList}
 use Rattle.dist_cert.specs.declared.records.Claim.{Claim}
 use Rattle.dist_cert.specs.declared.records.Header.{Header}
 use Rattle.dist_check.specs.Answers.{AcceptedMeans}
+use Rattle.dist_explain.specs.Verdicts.{AcceptedMeans as ExplanationMeans}
+use Rattle.dist_explain.specs.declared.explained.Explained.{Explained}
+use Rattle.dist_explain.specs.declared.verdict.ExplainHeader.{ExplainHeader}
+use Rattle.dist_report.specs.ExplainedText.{IsExplainedText}
 use Rattle.dist_app.specs.Check.{CertificateStage, Reports}
+use Rattle.dist_app.specs.CheckExplain.{ExplanationStage, TellsExplained, explained_status}
 use Rattle.dist_app.specs.Claims.{IsReportOf, claims_status}
 use Rattle.dist_app.specs.Stages.{Goes, Then, answered}
 use Rattle.dist_app.specs.declared.status.Status.{Status}
@@ -17,3 +22,10 @@ pub reported : (files : Option Files) (limits : Limits) (cert : List ℕ) (r : P
     → Then (CertificateStage files limits cert r) (Reports files r) (answered files status text)
 reported files limits cert r h made status text judged means s told =
     inr ((h, made), judged, record { means = means; text = text; is_report = told; is = rw s refl })
+
+pub told_explanation : (files : Option Files) (limits : Limits) (cert : List ℕ) (r : PackageList) (h : ExplainHeader) (explained : Explained)
+    (status : Status) (text : List ℕ) → ExplanationStage files limits cert r (Goes (h, explained)) → ExplanationMeans r h explained
+    → status ≡ explained_status explained → IsExplainedText r h.«package» explained text
+    → Then (ExplanationStage files limits cert r) (TellsExplained files r) (answered files status text)
+told_explanation files limits cert r h explained status text judged means s told =
+    inr ((h, explained), judged, record { means = means; text = text; is_text = told; is = rw s refl })

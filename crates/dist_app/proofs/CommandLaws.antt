@@ -1,8 +1,6 @@
 -- Where the desk tells its files, a refusal that comes before anything is written is the only end of a command.
-use Rattle.std.proofs.Common.{◌≡◌, ◌≤◌, ◌<◌, ℕ, List, Bool, false, inl, inr, Option, Some, None, Result, Ok, Err, length, refl, ap, sym, ◌∙◌, subst, arith}
-use Rattle.std.specs.Prelude.{IsSome}
-use Rattle.std.proofs.lemmas.Bool.{false≢true}
-use Rattle.dist_outside.specs.Files.{Files, file_bytes}
+use Rattle.std.proofs.Common.{◌≡◌, ◌≤◌, ◌<◌, ℕ, List, Bool, false, inl, inr, Option, Some, None, length, refl, ap, sym, ◌∙◌, subst, arith}
+use Rattle.dist_outside.specs.Files.{Files}
 use Rattle.dist_outside.specs.declared.limits.Limits.{Limits}
 use Rattle.dist_list.specs.OneAnswer.{HasOneAnswer as ListHasOneAnswer}
 use Rattle.dist_package.specs.OneAnswer.{HasOneAnswer}
@@ -10,26 +8,19 @@ use Rattle.dist_package.specs.declared.error.PackagesError.{PackagesError}
 use Rattle.dist_package.specs.declared.error.PackagesError.TheVariants as packages_error
 use Rattle.dist_repo.specs.PackageList.{PackageList}
 use Rattle.dist_repo.specs.declared.package.Package.{Package}
-use Rattle.dist_words.specs.CommandLine.{CommandLine, Health, Classes, Sweep, Check, Try, Steps, Follow}
+use Rattle.dist_words.specs.CommandLine.{CommandLine, Health, Classes, Sweep, Check, CheckExplain, Try, Steps, Follow}
 use Rattle.dist_words.specs.Table.{command_of}
 use Rattle.dist_outside.specs.declared.trouble.What.{What}
-use Rattle.dist_outside.specs.declared.trouble.WorkError.{WorkError}
-use Rattle.dist_outside.specs.declared.trouble.WorkError.TheVariants as work
 use Rattle.dist_repo.specs.Order.{IsInOrder, IsLatestOf}
 use Rattle.dist_cert.specs.declared.records.CertKind.{CertKind}
-use Rattle.dist_cert.specs.declared.records.Claim.{Claim}
-use Rattle.dist_cert.specs.declared.records.Header.{Header}
 use Rattle.dist_space.specs.Space.{IsSpace, SpaceView}
 use Rattle.dist_space.specs.SpaceOf.{IsSpaceOf}
 use Rattle.dist_subject.specs.Limited.{PassesFirst}
 use Rattle.dist_journal.specs.OneEnd.{HasOneEnd}
 use Rattle.dist_journal.specs.declared.fault.FollowError.{FollowError}
 use Rattle.dist_journal.specs.declared.fault.FollowError.TheVariants as follow_error
-use Rattle.dist_check.specs.Answers.{Answers, IsOfText}
-use Rattle.dist_judge.specs.Judging.{OfText}
-use Rattle.dist_check.specs.declared.verdict.Verdict.{Verdict}
-use Rattle.dist_check.specs.declared.verdict.Verdict.TheVariants.{Accepted, Refused}
-use Rattle.dist_app.specs.Check.{CertificateStage, IsEndOfCertificate, IsJudged, Reports}
+use Rattle.dist_app.specs.Check.{CertificateAnswers, CertificateStage, Reports}
+use Rattle.dist_app.specs.CheckExplain.{ExplanationReads, ExplanationStage, TellsExplained}
 use Rattle.dist_app.specs.Classes.{TellsClasses}
 use Rattle.dist_app.specs.Command.{CommandDecides, CommandRefuses, CommandIsGivenUp}
 use Rattle.dist_app.specs.Follow.{IsEndOfJournal, JournalStage, TellsFollowed}
@@ -45,6 +36,8 @@ use Rattle.dist_app.specs.TextStage.{TextStage}
 use Rattle.dist_app.specs.Try.{ArchiveStage}
 use Rattle.dist_generate.specs.Generator.{generated}
 use Rattle.dist_app.specs.declared.refusal.Refusal.TheVariants as refusal
+use Rattle.dist_app.proofs.Judgements.{check_determined}
+use Rattle.dist_app.proofs.OneVerdict.{HaveOneAnswer, HaveOneExplanation, certificates_once, explanations_once}
 use Rattle.dist_app.proofs.StageLaws.{apart, nothing_excludes, same_end as same_ending, same_value, then_excludes}
 
 same_text : (a b : List ℕ) (whole : Option (List ℕ)) → whole ≡ Some a → whole ≡ Some b → b ≡ a
@@ -66,11 +59,6 @@ same_end files (packages_error.Bad fault) e other is is' = is' ∙ sym is
 same_end files packages_error.TooMany e other is is' = is' ∙ sym is
 same_end files packages_error.NoMemory e other is is' = absurd is
 
--- each text of a certificate has one answer
-abbrev pub HaveOneAnswer : Type 0
-HaveOneAnswer = (r : PackageList) (limits : Limits) (text : List ℕ) (result other : Result Verdict WorkError) → IsInOrder r.packages
-    → Answers r limits text result → Answers r limits text other → IsOfText result → IsOfText other → other ≡ result
-
 -- one number is passed first
 abbrev pub HaveOneNumber : Type 0
 HaveOneNumber = (r : PackageList) (kind : CertKind) (essential : Bool) (limits : Limits) (what other : What) → IsInOrder r.packages
@@ -91,12 +79,13 @@ one-space newest spaces r essential s other is is' =
 abbrev pub HaveOneEnd : Type 0
 HaveOneEnd = (s : SpaceView) (limit : ℕ) (journal : List ℕ) (old : List Package) → IsSpace s → HasOneEnd s limit journal old
 
--- each Packages text has one repository or one error, each LIST one set or one first bad line, each CERT one answer, and of what a sweep is judged by one
--- number is passed first; each file has one space at a mode, and each journal one end
+-- each Packages text has one repository or one error, each LIST one set or one first bad line, each CERT one answer, as a certificate and as a file
+-- of an explanation, and of what a sweep is judged by one number is passed first; each file has one space at a mode, and each journal one end
 pub record AreExact : Type 0 where
   pub packages : (text : List ℕ) (limit : ℕ) → HasOneAnswer text limit
   pub lists : (packages : List Package) (text : List ℕ) → ListHasOneAnswer packages text
   pub certificates : HaveOneAnswer
+  pub explanations : HaveOneExplanation
   pub numbers : HaveOneNumber
   pub spaces : HaveOneSpace
   pub journals : HaveOneEnd
@@ -214,61 +203,15 @@ archive_determined exact files limits size seed (Ends e) (Ends o) (inr (within, 
 
 -- ---- CERT
 
-in_text : (P Q : List ℕ → Type 0) (found : Option (List ℕ)) (Goal : Type 0) → IsSome found → OfText found P → OfText found Q
-    → ((text : List ℕ) → P text → Q text → Goal) → Goal
-in_text P Q None Goal present first second both = absurd (false≢true present)
-in_text P Q (Some text) Goal present first second both = both text first second
-
-pub one_judgement : HaveOneAnswer → (files : Files) (limits : Limits) (cert : List ℕ) (r : PackageList) (result other : Result Verdict WorkError)
-    → IsInOrder r.packages
-    → IsJudged (Some files) limits cert r result → IsJudged (Some files) limits cert r other → IsOfText result → IsOfText other → other ≡ result
-one_judgement one files limits cert r result other order a b of_a of_b =
-    in_text (λ text. Answers r limits text result) (λ text. Answers r limits text other) (file_bytes (Some files) cert) (other ≡ result) a.present a.answers
-    b.answers
-    (λ text first second. one r limits text result other order first second of_a of_b)
-
-pub end_of_text : (files : Option Files) (result : Result Verdict WorkError) (ending : Ending) → IsEndOfCertificate files result ending → IsOfText result
-end_of_text files (Ok (Accepted h made)) ending end = absurd end
-end_of_text files (Ok (Refused fault)) ending end = tt
-end_of_text files (Err (work.TooLarge what)) ending end = tt
-end_of_text files (Err work.ReadFault) ending end = absurd end
-end_of_text files (Err work.WriteFault) ending end = absurd end
-end_of_text files (Err work.NoMemory) ending end = absurd end
-
-one_end : (files : Option Files) (result : Result Verdict WorkError) (e other : Ending) → IsEndOfCertificate files result e
-    → IsEndOfCertificate files result other → other ≡ e
-one_end files (Ok (Accepted h made)) e other is is' = absurd is
-one_end files (Ok (Refused fault)) e other is is' = is' ∙ sym is
-one_end files (Err (work.TooLarge what)) e other is is' = is' ∙ sym is
-one_end files (Err work.ReadFault) e other is is' = absurd is
-one_end files (Err work.WriteFault) e other is is' = absurd is
-one_end files (Err work.NoMemory) e other is is' = absurd is
-
--- an accepted first line with its claims, as an answer
-abbrev accepting : Header × List Claim → Result Verdict WorkError
-accepting a = Ok (Accepted a.0 a.1)
-
-same_accepted : (a b : Header × List Claim) → accepting b ≡ accepting a → b ≡ a
-same_accepted (h, made) (h', made') is = cc
-
-not_accepted : (files : Option Files) (result : Result Verdict WorkError) (a : Header × List Claim) (e : Ending) → IsEndOfCertificate files result e
-    → result ≡ accepting a → ⊥
-not_accepted files result a e end is = subst (λ (x : Result Verdict WorkError). IsEndOfCertificate files x e) is end
-
 pub certificate_determined : HaveOneAnswer → (files : Files) (limits : Limits) (cert : List ℕ) (r : PackageList) → IsInOrder r.packages
     → IsDetermined (CertificateStage (Some files) limits cert r)
-certificate_determined one files limits cert r order (Goes a) (Goes b) f g =
-    ap Goes (same_accepted a b (one_judgement one files limits cert r (Ok (Accepted a.0 a.1)) (Ok (Accepted b.0 b.1)) order f g tt tt))
-certificate_determined one files limits cert r order (Goes a) (Ends e) f (result, judged, end) =
-    absurd (not_accepted (Some files) result a e end (one_judgement one files limits cert r (Ok (Accepted a.0 a.1)) result order f judged tt
-    (end_of_text (Some files) result e end)))
-certificate_determined one files limits cert r order (Ends e) (Goes b) (result, judged, end) g =
-    absurd (not_accepted (Some files) result b e end (one_judgement one files limits cert r (Ok (Accepted b.0 b.1)) result order g judged tt
-    (end_of_text (Some files) result e end)))
-certificate_determined one files limits cert r order (Ends e) (Ends o) (result, judged, end) (result', judged', end') =
-    let same = one_judgement one files limits cert r result result' order judged judged' (end_of_text (Some files) result e end)
-    (end_of_text (Some files) result' o end') in
-    ap Ends (one_end (Some files) result e o end (subst (λ (x : Result Verdict WorkError). IsEndOfCertificate (Some files) x o) same end'))
+certificate_determined one files limits cert r order =
+    check_determined (CertificateAnswers r limits) (certificates_once one r limits order) files cert
+
+explanation_determined : HaveOneExplanation → (files : Files) (limits : Limits) (cert : List ℕ) (r : PackageList) → IsInOrder r.packages
+    → IsDetermined (ExplanationStage (Some files) limits cert r)
+explanation_determined one files limits cert r order =
+    check_determined (ExplanationReads r limits) (explanations_once one r limits order) files cert
 
 -- ---- commands
 
@@ -289,6 +232,11 @@ command_excludes exact (Check packages cert) files limits =
     then_excludes (CertificateStage (Some files) limits cert r) _ _
     (certificate_determined exact.certificates files limits cert r (in_order (Some files) limits packages r goes))
     (λ accepted judged. nothing_excludes (Reports (Some files) r accepted)))
+command_excludes exact (CheckExplain packages cert) files limits =
+    then_excludes (PackagesStage (Some files) limits packages) _ _ (packages_determined exact files limits packages) (λ r goes.
+    then_excludes (ExplanationStage (Some files) limits cert r) _ _
+    (explanation_determined exact.explanations files limits cert r (in_order (Some files) limits packages r goes))
+    (λ accepted judged. nothing_excludes (TellsExplained (Some files) r accepted)))
 command_excludes exact (Try size seed) files limits =
     then_excludes (ArchiveStage (Some files) limits size seed) _ _ (archive_determined exact (Some files) limits size seed)
     (λ r goes end ending refuses tries. tries.first end refuses)
@@ -317,6 +265,7 @@ given_up_excludes exact (Sweep kind packages cert essential limit) files limits 
     sweep_excludes exact files limits kind packages essential (λ r e. Unit {0}) end ending refuses
     (inr (given_up.repository, given_up.read, inr (tt, given_up.kept refl, tt)))
 given_up_excludes exact (Check packages cert) files limits end ending refuses given_up = absurd given_up
+given_up_excludes exact (CheckExplain packages cert) files limits end ending refuses given_up = absurd given_up
 given_up_excludes exact (Try size seed) files limits end ending refuses given_up = absurd given_up
 given_up_excludes exact (Steps packages later) files limits end ending refuses given_up = absurd given_up
 given_up_excludes exact (Follow packages cert journal) files limits end ending refuses given_up = absurd given_up

@@ -1,5 +1,5 @@
 -- What an undisturbed run comes to, from the end that it promises.
-use Rattle.std.proofs.Common.{◌≡◌, ◌⊎◌, ℕ, Bool, false, List, inl, inr, Option, Some, Result, Ok, Err, ap, sym, ◌∙◌, subst}
+use Rattle.std.proofs.Common.{◌≡◌, ◌⊎◌, ℕ, Bool, false, List, inl, inr, Option, Some, Result, ap, sym, ◌∙◌, subst}
 use Rattle.std.specs.List.{list_any}
 use Rattle.dist_base.specs.declared.TheConstants.{DEFAULT_LIMIT}
 use Rattle.dist_outside.specs.Counts.{Rose}
@@ -8,8 +8,6 @@ use Rattle.dist_outside.specs.Files.{Files, with_file}
 use Rattle.dist_outside.specs.SinkView.{SinkView}
 use Rattle.dist_outside.specs.declared.limits.Limits.{Limits}
 use Rattle.dist_outside.specs.declared.trouble.What.{What}
-use Rattle.dist_outside.specs.declared.trouble.WorkError.{WorkError}
-use Rattle.dist_outside.specs.declared.trouble.WorkError.TheVariants as work
 use Rattle.dist_repo.specs.Order.{IsLatestOf}
 use Rattle.dist_repo.specs.PackageList.{PackageList}
 use Rattle.dist_space.specs.Space.{SpaceView}
@@ -19,6 +17,7 @@ use Rattle.dist_now.specs.declared.kinds.Health.{Health as Judgement}
 use Rattle.dist_now.specs.declared.kinds.Health.TheVariants as health
 use Rattle.dist_budget.specs.Budget.{IsBelowBudget}
 use Rattle.dist_cert.specs.Part.{IsStoppedBy}
+use Rattle.dist_cert.specs.declared.faults.ReadCertError.{ReadCertError}
 use Rattle.dist_cert.specs.declared.records.CertKind.{CertKind}
 use Rattle.dist_cert.specs.declared.records.Claim.{Claim}
 use Rattle.dist_cert.specs.declared.records.Header.{Header}
@@ -29,17 +28,16 @@ use Rattle.dist_subject.specs.Basis.{Basis, IsBasisOf, matter_of}
 use Rattle.dist_sweep.specs.Sweep.{IsFull, OfSweep, header_of}
 use Rattle.dist_trial.specs.Summary.{has_marks}
 use Rattle.dist_trial.specs.Trial.{IsStoppedAt}
-use Rattle.dist_check.specs.Answers.{IsOfText}
-use Rattle.dist_check.specs.declared.verdict.Verdict.{Verdict}
-use Rattle.dist_check.specs.declared.verdict.Verdict.TheVariants as verdict
-use Rattle.dist_words.specs.CommandLine.{CommandLine, Health, Classes, Sweep, Check, Try, Steps, Follow}
+use Rattle.dist_words.specs.CommandLine.{CommandLine, Health, Classes, Sweep, Check, CheckExplain, Try, Steps, Follow}
 use Rattle.dist_words.specs.Table.{command_of}
-use Rattle.dist_app.specs.Check.{CertificateStage, IsEndOfCertificate, IsJudged, Reports}
+use Rattle.dist_app.specs.Check.{CertificateAnswers, CertificateStage, Reports}
+use Rattle.dist_app.specs.CheckExplain.{ExplanationReads, ExplanationStage, TellsExplained}
+use Rattle.dist_app.specs.CheckedFile.{IsOneAnswer}
 use Rattle.dist_app.specs.Claims.{has_mark, marked_status}
 use Rattle.dist_app.specs.Classes.{TellsClasses}
 use Rattle.dist_app.specs.Command.{CommandDecides, CommandIsGivenUp, IsApart}
-use Rattle.dist_app.specs.Complete.{Completes, IsComplete, IsNotAccepted, IsStatusOfJournal, IsStatusOfLater, IsStatusOfSet, IsUndisturbed}
-use Rattle.dist_app.specs.Complete.{StopsBelowBudget, TrialIsComplete, stop_status, verdict_status}
+use Rattle.dist_app.specs.Complete.{Completes, IsComplete, IsStatusOfFile, IsStatusOfJournal, IsStatusOfLater, IsStatusOfRefused, IsStatusOfSet}
+use Rattle.dist_app.specs.Complete.{IsUndisturbed, StopsBelowBudget, TrialIsComplete, stop_status, told_claims, told_explained}
 use Rattle.dist_app.specs.Follow.{IsEndOfJournal, JournalStage, JournalStages, TellsFollowed}
 use Rattle.dist_app.specs.Headline.{IsCarriedOut}
 use Rattle.dist_app.specs.Health.{Judges, ListStage, ListStages, Tells}
@@ -55,10 +53,12 @@ use Rattle.dist_app.specs.declared.refusal.Refusal.{Refusal}
 use Rattle.dist_app.specs.declared.refusal.Refusal.TheVariants as refusal
 use Rattle.dist_app.specs.declared.status.Status.{Status}
 use Rattle.dist_app.specs.declared.status.Status.TheVariants.{Done, WriteFault, NoMemory, TooLarge, NotAFuture}
-use Rattle.dist_app.proofs.CommandLaws.{AreExact, one_line, archive_determined, inputs_determined, end_of_text, in_order, list_determined, one_judgement}
+use Rattle.dist_app.proofs.CommandLaws.{AreExact, one_line, archive_determined, inputs_determined, in_order, list_determined}
 use Rattle.dist_app.proofs.CommandLaws.{HaveOneEnd, certificate_determined, packages_determined, space_determined, text_determined}
 use Rattle.dist_app.proofs.FollowStages.{AfterCertificate}
 use Rattle.dist_app.proofs.Headlines.{of_line}
+use Rattle.dist_app.proofs.Judgements.{comes_to, judged_first}
+use Rattle.dist_app.proofs.OneVerdict.{certificates_once, explanations_once}
 use Rattle.dist_app.proofs.Refused.{mark_carried_out}
 use Rattle.dist_app.proofs.StageLaws.{then_goes}
 use Rattle.dist_app.proofs.StepsStages.{AreNewestOnce}
@@ -203,47 +203,23 @@ trial_ends laws files limits size seed r ending made kept decides =
     trial_comes_to laws files limits size r ending kept
     (then_goes (ArchiveStage files limits size seed) (Tries files limits size) (archive_determined laws.texts files limits size seed) r made ending decides)
 
--- the one answer of CERT
-abbrev CheckComesTo : Option Files → Limits → (cert : List ℕ) → PackageList → Status → Type 0
-CheckComesTo files limits cert r status =
-    (answer : Result Verdict WorkError) × IsOfText answer × IsJudged files limits cert r answer × (status ≡ verdict_status answer)
-    × ((other : Result Verdict WorkError) → IsOfText other → IsJudged files limits cert r other → other ≡ answer)
-
-end_status : (files : Option Files) (answer : Result Verdict WorkError) (ending : Ending) → IsEndOfCertificate files answer ending
-    → ending.status ≡ verdict_status answer
-end_status files (Ok (verdict.Accepted h made)) ending end = absurd end
-end_status files (Ok (verdict.Refused fault)) ending is = ap (λ (x : Ending). x.status) is
-end_status files (Err (work.TooLarge what)) ending is = ap (λ (x : Ending). x.status) is
-end_status files (Err work.ReadFault) ending end = absurd end
-end_status files (Err work.WriteFault) ending end = absurd end
-end_status files (Err work.NoMemory) ending end = absurd end
-
-check_comes_to : Laws → (files : Files) (limits : Limits) (packages cert : List ℕ) (r : PackageList) (ending : Ending)
-    → PackagesStage (Some files) limits packages (Goes r)
-    → Then (CertificateStage (Some files) limits cert r) (Reports (Some files) r) ending → CheckComesTo (Some files) limits cert r ending.status
-check_comes_to laws files limits packages cert r ending read (inl (answer, judged, end)) = (
-  answer,
-  end_of_text (Some files) answer ending end,
-  judged,
-  end_status (Some files) answer ending end,
-  λ other of_other judged'. one_judgement laws.texts.certificates files limits cert r answer other (in_order (Some files) limits packages r read) judged judged'
-      (end_of_text (Some files) answer ending end) of_other,
-)
-check_comes_to laws files limits packages cert r ending read (inr (accepted, judged, reports)) = (
-  Ok (verdict.Accepted accepted.0 accepted.1),
-  tt,
-  judged,
-  ap (λ (x : Ending). x.status) reports.is,
-  λ other of_other judged'. one_judgement laws.texts.certificates files limits cert r (Ok (verdict.Accepted accepted.0 accepted.1)) other
-      (in_order (Some files) limits packages r read) judged judged' tt of_other,
-)
-
 check_ends : Laws → (files : Files) (limits : Limits) (packages cert : List ℕ) (r : PackageList) (ending : Ending)
-    → PackagesStage (Some files) limits packages (Goes r)
-    → CommandDecides (Check packages cert) (Some files) limits ending → CheckComesTo (Some files) limits cert r ending.status
+    → PackagesStage (Some files) limits packages (Goes r) → CommandDecides (Check packages cert) (Some files) limits ending
+    → IsStatusOfFile (CertificateAnswers r limits) (Some files) cert told_claims ending.status
 check_ends laws files limits packages cert r ending read decides =
-    check_comes_to laws files limits packages cert r ending read
+    comes_to (CertificateAnswers r limits) (certificates_once laws.texts.certificates r limits (in_order (Some files) limits packages r read)) files cert
+    (Reports (Some files) r) told_claims (λ accepted e reports. ap (λ (x : Ending). x.status) reports.is) ending
     (then_goes (PackagesStage (Some files) limits packages) (λ x. Then (CertificateStage (Some files) limits cert x) (Reports (Some files) x))
+    (packages_determined laws.texts files limits packages)
+    r read ending decides)
+
+check_explain_ends : Laws → (files : Files) (limits : Limits) (packages cert : List ℕ) (r : PackageList) (ending : Ending)
+    → PackagesStage (Some files) limits packages (Goes r) → CommandDecides (CheckExplain packages cert) (Some files) limits ending
+    → IsStatusOfFile (ExplanationReads r limits) (Some files) cert told_explained ending.status
+check_explain_ends laws files limits packages cert r ending read decides =
+    comes_to (ExplanationReads r limits) (explanations_once laws.texts.explanations r limits (in_order (Some files) limits packages r read)) files cert
+    (TellsExplained (Some files) r) told_explained (λ accepted e told. ap (λ (x : Ending). x.status) told.is) ending
+    (then_goes (PackagesStage (Some files) limits packages) (λ x. Then (ExplanationStage (Some files) limits cert x) (TellsExplained (Some files) x))
     (packages_determined laws.texts files limits packages)
     r read ending decides)
 
@@ -279,24 +255,13 @@ steps_end laws files limits packages later r l newest_later space ending read ma
 
 -- ---- `follow`
 
-refused_status : Laws → (files : Files) (limits : Limits) (packages cert journal : List ℕ) (r : PackageList) (answer : Result Verdict WorkError)
-    (ending : Ending) → PackagesStage (Some files) limits packages (Goes r) → IsOfText answer → IsJudged (Some files) limits cert r answer
-    → IsNotAccepted answer → Then (CertificateStage (Some files) limits cert r) (AfterCertificate limits journal r (Some files)) ending
-    → ending.status ≡ verdict_status answer
-refused_status laws files limits packages cert journal r answer ending read of_text judged other (inl (found, judged', end)) =
-    let same = one_judgement laws.texts.certificates files limits cert r found answer (in_order (Some files) limits packages r read) judged' judged
-    (end_of_text (Some files) found ending end) of_text in
-    end_status (Some files) found ending end ∙ ap verdict_status (sym same)
-refused_status laws files limits packages cert journal r answer ending read of_text judged other (inr (accepted, judged', rest)) =
-    let same = one_judgement laws.texts.certificates files limits cert r (Ok (verdict.Accepted accepted.0 accepted.1)) answer
-    (in_order (Some files) limits packages r read) judged' judged tt of_text in
-    absurd (subst IsNotAccepted same other)
-
-follow_judges : Laws → (files : Files) (limits : Limits) (packages cert journal : List ℕ) (r : PackageList) (answer : Result Verdict WorkError)
-    (ending : Ending) → PackagesStage (Some files) limits packages (Goes r) → IsOfText answer → IsJudged (Some files) limits cert r answer
-    → IsNotAccepted answer → CommandDecides (Follow packages cert journal) (Some files) limits ending → ending.status ≡ verdict_status answer
-follow_judges laws files limits packages cert journal r answer ending read of_text judged other decides =
-    refused_status laws files limits packages cert journal r answer ending read of_text judged other
+follow_judges : Laws → (files : Files) (limits : Limits) (packages cert journal : List ℕ) (r : PackageList) (ending : Ending)
+    → PackagesStage (Some files) limits packages (Goes r) → CommandDecides (Follow packages cert journal) (Some files) limits ending
+    → (answer : Result (Header × List Claim) ReadCertError) × IsOneAnswer (CertificateAnswers r limits) (Some files) cert answer
+    × IsStatusOfRefused answer ending.status
+follow_judges laws files limits packages cert journal r ending read decides =
+    judged_first (CertificateAnswers r limits) (certificates_once laws.texts.certificates r limits (in_order (Some files) limits packages r read)) files cert
+    (AfterCertificate limits journal r (Some files)) ending
     (then_goes (PackagesStage (Some files) limits packages)
     (λ x. Then (CertificateStage (Some files) limits cert x) (AfterCertificate limits journal x (Some files)))
     (packages_determined laws.texts files limits packages) r read ending decides)
@@ -350,10 +315,12 @@ module _ (laws : Laws) (words : List (List ℕ)) (limits : Limits) (files : File
     sweep = λ kind packages cert essential limit r is read kept.
         inr (sweep_ends laws files limits kind packages cert essential limit r ending read kept (of (Sweep kind packages cert essential limit) is));
     check = λ packages cert r is read. inr (check_ends laws files limits packages cert r ending read (of (Check packages cert) is));
+    check_explain = λ packages cert r is read.
+        inr (check_explain_ends laws files limits packages cert r ending read (of (CheckExplain packages cert) is));
     steps = λ packages later r l newest_later space is read made read_later latest_later.
         inr (steps_end laws files limits packages later r l newest_later space ending read made read_later latest_later (of (Steps packages later) is));
-    follow_judges = λ packages cert journal r answer is read of_text judged other.
-        inr (follow_judges laws files limits packages cert journal r answer ending read of_text judged other (of (Follow packages cert journal) is));
+    follow_judges = λ packages cert journal r is read.
+        inr (follow_judges laws files limits packages cert journal r ending read (of (Follow packages cert journal) is));
     follow = λ packages cert journal r accepted space text is read judged made whole.
         inr (follow_ends laws files limits packages cert journal r accepted space text ending read judged made whole
         (of (Follow packages cert journal) is));
@@ -370,8 +337,9 @@ stored_out words limits result files left memory = record {
   classes = λ packages r is read. inl memory;
   sweep = λ kind packages cert essential limit r is read kept. inl memory;
   check = λ packages cert r is read. inl memory;
+  check_explain = λ packages cert r is read. inl memory;
   steps = λ packages later r l newest_later space is read made read_later latest_later. inl memory;
-  follow_judges = λ packages cert journal r answer is read of_text judged other. inl memory;
+  follow_judges = λ packages cert journal r is read. inl memory;
   follow = λ packages cert journal r accepted space text is read judged made whole. inl memory;
 }
 

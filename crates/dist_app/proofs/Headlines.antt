@@ -1,4 +1,4 @@
--- What a run that sweeps, and one of `check`, `steps` and `follow` prove, from the end that they come to.
+-- What a run that sweeps, and one of `check`, `check-explain`, `steps` and `follow` prove, from the end that they come to.
 use Rattle.std.proofs.Common.{◌≡◌, ℕ, Bool, false, List, inl, inr, Option, Some, None, ap, ◌∙◌, subst, sym}
 use Rattle.dist_outside.specs.DeskView.{DeskView}
 use Rattle.dist_outside.specs.Files.{Files}
@@ -9,14 +9,17 @@ use Rattle.dist_space.specs.Space.{SpaceView}
 use Rattle.dist_cert.specs.declared.records.CertKind.{CertKind}
 use Rattle.dist_cert.specs.declared.records.Claim.{Claim}
 use Rattle.dist_cert.specs.declared.records.Header.{Header}
-use Rattle.dist_words.specs.CommandLine.{CommandLine, Sweep, Check, Steps, Follow}
+use Rattle.dist_explain.specs.declared.explained.Explained.{Explained}
+use Rattle.dist_explain.specs.declared.verdict.ExplainHeader.{ExplainHeader}
+use Rattle.dist_words.specs.CommandLine.{CommandLine, Sweep, Check, CheckExplain, Steps, Follow}
 use Rattle.dist_words.specs.Table.{command_of}
 use Rattle.dist_app.specs.CarriedPrivate.{IsAnswered}
-use Rattle.dist_app.specs.Check.{CertificateStage, CheckStages, Reports}
+use Rattle.dist_app.specs.Check.{CertificateAnswers, CertificateStage, CheckStages, Reports}
+use Rattle.dist_app.specs.CheckExplain.{CheckExplainStages, ExplanationReads, ExplanationStage, TellsExplained}
 use Rattle.dist_app.specs.Command.{CommandDecides}
 use Rattle.dist_app.specs.Follow.{FollowStages, TellsFollowed}
-use Rattle.dist_app.specs.Headline.{CheckIsProved, IsCarriedOut, ProvesCheck, ProvesFollow, ProvesMisfit, ProvesPlan, ProvesSweep}
-use Rattle.dist_app.specs.Headline.{AreCompared, FollowIsProved, StepsAreProved, SweepIsProved}
+use Rattle.dist_app.specs.Headline.{CheckExplainIsProved, CheckIsProved, IsCarriedOut, ProvesCheck, ProvesExplained, ProvesFollow, ProvesMisfit}
+use Rattle.dist_app.specs.Headline.{AreCompared, FollowIsProved, ProvesPlan, ProvesSweep, StepsAreProved, SweepIsProved}
 use Rattle.dist_app.specs.PackagesStage.{PackagesStage}
 use Rattle.dist_app.specs.Refusal.{status_of}
 use Rattle.dist_app.specs.Run.{Decides}
@@ -28,7 +31,7 @@ use Rattle.dist_app.specs.TextStage.{TextStage}
 use Rattle.dist_app.specs.declared.refusal.Refusal.{Refusal}
 use Rattle.dist_app.specs.declared.status.Status.{Status}
 use Rattle.dist_app.specs.declared.status.Status.TheVariants.{Done, NotAFuture}
-use Rattle.dist_app.proofs.Refused.{IsRefusal, certificate_refuses, inputs_refuse, not_a_misfit, not_carried_out, packages_refuses, refusal_not_a_misfit}
+use Rattle.dist_app.proofs.Refused.{IsRefusal, check_refuses, inputs_refuse, not_a_misfit, not_carried_out, packages_refuses, refusal_not_a_misfit}
 use Rattle.dist_app.proofs.Refused.{journal_refuses, refusal_not_carried_out, space_refuses, text_refuses}
 use Rattle.dist_app.proofs.Sweeping.{ClaimsHold, sweep_means}
 
@@ -98,8 +101,38 @@ module _ (limits : Limits) (packages cert : List ℕ) (result : Status) (desk de
 
   pub check_proves : CheckStages desk.files limits packages cert (Reports desk.files) ending → ProvesCheck limits packages cert result desk desk' out out'
   check_proves (inl ends) = absurd (refusal_not_carried_out desk.files ending (packages_refuses desk.files limits packages ending ends) carried)
-  check_proves (inr (r, goes, inl ends)) = absurd (refusal_not_carried_out desk.files ending (certificate_refuses desk.files limits cert r ending ends) carried)
+  check_proves (inr (r, goes, inl ends)) =
+      absurd (refusal_not_carried_out desk.files ending (check_refuses (CertificateAnswers r limits) desk.files cert ending ends) carried)
   check_proves (inr (r, goes, inr (accepted, judged, reports))) = accepted_proves r accepted goes judged reports
+
+-- ---- `check-explain`
+
+module _ (limits : Limits) (packages cert : List ℕ) (result : Status) (desk desk' : DeskView) (out out' : SinkView) (ending : Ending)
+    (status_is : result ≡ ending.status) (carried : IsCarriedOut ending.status) (files : desk'.files ≡ ending.files) (printed : Grew ending.out out out') where
+  told_proves : (r : PackageList) (accepted : ExplainHeader × Explained) → PackagesStage desk.files limits packages (Goes r)
+      → ExplanationStage desk.files limits cert r (Goes accepted) → TellsExplained desk.files r accepted ending
+      → ProvesExplained limits packages cert result desk desk' out out'
+  told_proves r accepted goes judged told = record {
+    repository = r;
+    read = goes;
+    header = accepted.0;
+    explained = accepted.1;
+    present = judged.present;
+    accepted = judged.answers;
+    files = files ∙ ap (λ (e : Ending). e.files) told.is;
+    means = told.means;
+    told = told.text;
+    is_told = told.is_text;
+    printed = subst (λ (e : Ending). Grew e.out out out') told.is printed;
+    status = status_is ∙ ap (λ (e : Ending). e.status) told.is;
+  }
+
+  pub check_explain_proves : CheckExplainStages desk.files limits packages cert (TellsExplained desk.files) ending
+      → ProvesExplained limits packages cert result desk desk' out out'
+  check_explain_proves (inl ends) = absurd (refusal_not_carried_out desk.files ending (packages_refuses desk.files limits packages ending ends) carried)
+  check_explain_proves (inr (r, goes, inl ends)) =
+      absurd (refusal_not_carried_out desk.files ending (check_refuses (ExplanationReads r limits) desk.files cert ending ends) carried)
+  check_explain_proves (inr (r, goes, inr (accepted, judged, told))) = told_proves r accepted goes judged told
 
 -- ---- `steps`
 
@@ -200,7 +233,7 @@ module _ (limits : Limits) (packages cert journal : List ℕ) (desk desk' : Desk
 
   pub follow_proves : FollowStages desk.files limits packages cert journal (TellsFollowed desk.files limits.stanzas) ending → ProvesIt
   follow_proves (inl ends) = not_refused (packages_refuses desk.files limits packages ending ends)
-  follow_proves (inr (r, goes, inl ends)) = not_refused (certificate_refuses desk.files limits cert r ending ends)
+  follow_proves (inr (r, goes, inl ends)) = not_refused (check_refuses (CertificateAnswers r limits) desk.files cert ending ends)
   follow_proves (inr (r, goes, inr (accepted, judged, inl ends))) = not_refused (space_refuses desk.files limits accepted.0.essential r ending ends)
   follow_proves (inr (r, goes, inr (accepted, judged, inr (space, made, inl ends)))) =
       not_refused (text_refuses desk.files journal limits.bytes ending ends)
@@ -223,6 +256,16 @@ pub check_proved : (words : List (List ℕ)) (limits : Limits) (result : Status)
 check_proved words limits result desk desk' out out' a packages cert is carried =
     check_proves limits packages cert result desk desk' out out' a.ending a.status_is (subst IsCarriedOut a.status_is carried) a.files a.printed
     (of_line words desk.files limits (Check packages cert) a.ending is a.decides)
+
+pub check_explain_proved : (words : List (List ℕ)) (limits : Limits) (result : Status) (desk desk' : DeskView) (out out' : SinkView)
+    → IsAnswered words limits desk desk' out out' result → CheckExplainIsProved words limits result desk desk' out out'
+check_explain_proved words limits result desk desk' out out' a packages cert is carried =
+    check_explain_proves limits packages cert result desk desk' out out' a.ending a.status_is (subst IsCarriedOut a.status_is carried) a.files a.printed
+    (of_line words desk.files limits (CheckExplain packages cert) a.ending is a.decides)
+
+pub check_explain_refused : (words : List (List ℕ)) (limits : Limits) (r : Refusal) (desk desk' : DeskView) (out out' : SinkView)
+    → CheckExplainIsProved words limits (status_of r) desk desk' out out'
+check_explain_refused words limits r desk desk' out out' packages cert is carried = absurd (not_carried_out r carried)
 
 -- a refusal proves nothing of either
 pub sweep_refused : (words : List (List ℕ)) (limits : Limits) (r : Refusal) (desk desk' : DeskView) (out out' : SinkView)

@@ -9,9 +9,11 @@ pub mod FollowStages
 pub mod Headlines
 pub mod HealthStages
 pub mod HealthTexts
+pub mod Judgements
 pub mod KindText
 pub mod LaterLemmas
 pub mod NewestLemmas
+pub mod OneVerdict
 pub mod Refused
 pub mod Runs
 pub mod StageLaws

@@ -1,10 +1,9 @@
 -- The ends of the stages are refusals, and the statuses of the ends that inputs decide.
-use Rattle.std.proofs.Common.{◌≡◌, ℕ, Bool, true, false, List, [], inl, inr, Option, Result, Ok, Err, ap, sym, ◌∙◌, subst}
+use Rattle.std.proofs.Common.{◌≡◌, ℕ, Bool, true, false, List, [], inl, inr, Option, Result, ap, sym, ◌∙◌, subst}
 use Rattle.std.specs.List.{list_any}
 use Rattle.dist_outside.specs.Files.{Files}
 use Rattle.dist_outside.specs.declared.limits.Limits.{Limits}
 use Rattle.dist_outside.specs.declared.trouble.What.TheVariants as what
-use Rattle.dist_outside.specs.declared.trouble.WorkError.{WorkError}
 use Rattle.dist_outside.specs.declared.trouble.WorkError.TheVariants as work
 use Rattle.dist_package.specs.declared.error.PackagesError.{PackagesError}
 use Rattle.dist_package.specs.declared.error.PackagesError.TheVariants as packages_error
@@ -17,13 +16,15 @@ use Rattle.dist_journal.specs.declared.fault.FollowError.{FollowError}
 use Rattle.dist_journal.specs.declared.fault.FollowError.TheVariants as follow_error
 use Rattle.dist_history.specs.FollowText.{follow_text}
 use Rattle.dist_history.specs.PlanText.{misfit_text, plan_text}
+use Rattle.dist_cert.specs.declared.faults.ReadCertError.{ReadCertError}
+use Rattle.dist_cert.specs.declared.faults.ReadCertError.TheVariants.{Bad, Work}
 use Rattle.dist_cert.specs.declared.records.CertKind.{CertKind}
 use Rattle.dist_cert.specs.declared.records.CertKind.TheVariants as kinds
-use Rattle.dist_check.specs.declared.verdict.Verdict.{Verdict}
-use Rattle.dist_check.specs.declared.verdict.Verdict.TheVariants as verdict
 use Rattle.dist_trial.specs.Summary.{has_marks}
-use Rattle.dist_words.specs.CommandLine.{CommandLine, Health, Classes, Sweep, Check, Try, Steps, Follow}
-use Rattle.dist_app.specs.Check.{CertificateStage, IsEndOfCertificate}
+use Rattle.dist_words.specs.CommandLine.{CommandLine, Health, Classes, Sweep, Check, CheckExplain, Try, Steps, Follow}
+use Rattle.dist_app.specs.Check.{CertificateAnswers}
+use Rattle.dist_app.specs.CheckExplain.{ExplanationReads, leaves_undecided}
+use Rattle.dist_app.specs.CheckedFile.{CheckStage, IsEndOfError}
 use Rattle.dist_app.specs.Claims.{has_mark, marked_status}
 use Rattle.dist_app.specs.Command.{CommandDecides, CommandRefuses, CommandIsGivenUp}
 use Rattle.dist_app.specs.Follow.{IsEndOfJournal, JournalStage}
@@ -122,18 +123,16 @@ pub inputs_refuse : (files : Option Files) (limits : Limits) (kind : CertKind) (
     → InputsStage files limits kind essential r (Ends ending) → IsRefusal files ending
 inputs_refuse files limits kind essential r ending (number, passes, is) = record { why = refusal.TooLarge number; of_files = tt; is = is }
 
-certificate_end_refuses : (files : Option Files) (result : Result Verdict WorkError) (ending : Ending) → IsEndOfCertificate files result ending
-    → IsRefusal files ending
-certificate_end_refuses files (Ok (verdict.Accepted h made)) ending end = absurd end
-certificate_end_refuses files (Ok (verdict.Refused fault)) ending is = record { why = refusal.CertificateRefused fault; of_files = tt; is = is }
-certificate_end_refuses files (Err (work.TooLarge limit)) ending is = record { why = refusal.TooLarge limit; of_files = tt; is = is }
-certificate_end_refuses files (Err work.ReadFault) ending end = absurd end
-certificate_end_refuses files (Err work.WriteFault) ending end = absurd end
-certificate_end_refuses files (Err work.NoMemory) ending end = absurd end
+error_refuses : (files : Option Files) (error : ReadCertError) (ending : Ending) → IsEndOfError files error ending → IsRefusal files ending
+error_refuses files (Bad fault) ending is = record { why = refusal.CertificateRefused fault; of_files = tt; is = is }
+error_refuses files (Work (work.TooLarge limit)) ending is = record { why = refusal.TooLarge limit; of_files = tt; is = is }
+error_refuses files (Work work.ReadFault) ending end = absurd end
+error_refuses files (Work work.WriteFault) ending end = absurd end
+error_refuses files (Work work.NoMemory) ending end = absurd end
 
-pub certificate_refuses : (files : Option Files) (limits : Limits) (cert : List ℕ) (r : PackageList) (ending : Ending)
-    → CertificateStage files limits cert r (Ends ending) → IsRefusal files ending
-certificate_refuses files limits cert r ending (result, judged, end) = certificate_end_refuses files result ending end
+pub check_refuses : {X : Type 0} (Answers : List ℕ → Result X ReadCertError → Type 0) (files : Option Files) (name : List ℕ) (ending : Ending)
+    → CheckStage Answers files name (Ends ending) → IsRefusal files ending
+check_refuses Answers files name ending (error, judged, end) = error_refuses files error ending end
 
 pub space_refuses : (files : Option Files) (limits : Limits) (essential : Bool) (r : PackageList) (ending : Ending)
     → SpaceStage files limits essential r (Ends ending) → IsRefusal files ending
@@ -168,8 +167,11 @@ command_refuses (Sweep kind packages cert essential limit) files limits ending (
     inputs_refuse files limits kind essential r ending c
 command_refuses (Sweep kind packages cert essential limit) files limits ending (inr (r, goes, inr (_, kept, none))) = absurd none
 command_refuses (Check packages cert) files limits ending (inl p) = packages_refuses files limits packages ending p
-command_refuses (Check packages cert) files limits ending (inr (r, goes, inl c)) = certificate_refuses files limits cert r ending c
+command_refuses (Check packages cert) files limits ending (inr (r, goes, inl c)) = check_refuses (CertificateAnswers r limits) files cert ending c
 command_refuses (Check packages cert) files limits ending (inr (r, goes, inr (accepted, judged, none))) = absurd none
+command_refuses (CheckExplain packages cert) files limits ending (inl p) = packages_refuses files limits packages ending p
+command_refuses (CheckExplain packages cert) files limits ending (inr (r, goes, inl c)) = check_refuses (ExplanationReads r limits) files cert ending c
+command_refuses (CheckExplain packages cert) files limits ending (inr (r, goes, inr (accepted, judged, none))) = absurd none
 command_refuses (Try size seed) files limits ending (inl a) = archive_refuses files limits size seed ending a
 command_refuses (Try size seed) files limits ending (inr (r, goes, c)) = inputs_refuse files limits kinds.Strong false r ending c
 command_refuses (Steps packages later) files limits ending (inl p) = packages_refuses files limits packages ending p
@@ -177,7 +179,7 @@ command_refuses (Steps packages later) files limits ending (inr (r, goes, inl s)
 command_refuses (Steps packages later) files limits ending (inr (r, goes, inr (space, made, inl p))) = packages_refuses files limits later ending p
 command_refuses (Steps packages later) files limits ending (inr (r, goes, inr (space, made, inr (l, goes', none)))) = absurd none
 command_refuses (Follow packages cert journal) files limits ending (inl p) = packages_refuses files limits packages ending p
-command_refuses (Follow packages cert journal) files limits ending (inr (r, goes, inl c)) = certificate_refuses files limits cert r ending c
+command_refuses (Follow packages cert journal) files limits ending (inr (r, goes, inl c)) = check_refuses (CertificateAnswers r limits) files cert ending c
 command_refuses (Follow packages cert journal) files limits ending (inr (r, goes, inr (accepted, judged, inl s))) =
     space_refuses files limits accepted.0.essential r ending s
 command_refuses (Follow packages cert journal) files limits ending (inr (r, goes, inr (accepted, judged, inr (space, made, inl t)))) =
@@ -237,9 +239,15 @@ command_status (Sweep kind packages cert essential limit) files limits ending (i
 command_status (Sweep kind packages cert essential limit) files limits ending (inr (r, goes, inr (_, kept, inr stopped))) =
     subst (λ (e : Ending). IsOfFiles e.status) (sym stopped.is) tt
 command_status (Check packages cert) files limits ending (inl p) = refusal_status files ending (packages_refuses files limits packages ending p)
-command_status (Check packages cert) files limits ending (inr (r, goes, inl c)) = refusal_status files ending (certificate_refuses files limits cert r ending c)
+command_status (Check packages cert) files limits ending (inr (r, goes, inl c)) =
+    refusal_status files ending (check_refuses (CertificateAnswers r limits) files cert ending c)
 command_status (Check packages cert) files limits ending (inr (r, goes, inr (accepted, judged, reports))) =
     subst (λ (e : Ending). IsOfFiles e.status) (sym reports.is) (mark_of_files (list_any has_mark accepted.1))
+command_status (CheckExplain packages cert) files limits ending (inl p) = refusal_status files ending (packages_refuses files limits packages ending p)
+command_status (CheckExplain packages cert) files limits ending (inr (r, goes, inl c)) =
+    refusal_status files ending (check_refuses (ExplanationReads r limits) files cert ending c)
+command_status (CheckExplain packages cert) files limits ending (inr (r, goes, inr (accepted, judged, told))) =
+    subst (λ (e : Ending). IsOfFiles e.status) (sym told.is) (mark_of_files (leaves_undecided accepted.1))
 command_status (Try size seed) files limits ending (inl a) = refusal_status files ending (archive_refuses files limits size seed ending a)
 command_status (Try size seed) files limits ending (inr (r, goes, tries)) =
     elim tries.comes [
@@ -255,7 +263,7 @@ command_status (Steps packages later) files limits ending (inr (r, goes, inr (sp
     later_status files space l ending told
 command_status (Follow packages cert journal) files limits ending (inl p) = refusal_status files ending (packages_refuses files limits packages ending p)
 command_status (Follow packages cert journal) files limits ending (inr (r, goes, inl c)) =
-    refusal_status files ending (certificate_refuses files limits cert r ending c)
+    refusal_status files ending (check_refuses (CertificateAnswers r limits) files cert ending c)
 command_status (Follow packages cert journal) files limits ending (inr (r, goes, inr (accepted, judged, inl s))) =
     refusal_status files ending (space_refuses files limits accepted.0.essential r ending s)
 command_status (Follow packages cert journal) files limits ending (inr (r, goes, inr (accepted, judged, inr (space, made, inl t)))) =
@@ -273,6 +281,7 @@ given_up_status (Health packages list) files limits why ending given_up = absurd
 given_up_status (Classes packages) files limits why ending given_up = absurd given_up
 given_up_status (Sweep kind packages cert essential limit) files limits why ending given_up = ap (λ (e : Ending). e.status) given_up.is
 given_up_status (Check packages cert) files limits why ending given_up = absurd given_up
+given_up_status (CheckExplain packages cert) files limits why ending given_up = absurd given_up
 given_up_status (Try size seed) files limits why ending given_up = absurd given_up
 given_up_status (Steps packages later) files limits why ending given_up = absurd given_up
 given_up_status (Follow packages cert journal) files limits why ending given_up = absurd given_up

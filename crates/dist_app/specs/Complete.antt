@@ -7,7 +7,6 @@ use Rattle.dist_outside.specs.Files.{Files, with_file}
 use Rattle.dist_outside.specs.SinkView.{SinkView}
 use Rattle.dist_outside.specs.declared.limits.Limits.{Limits}
 use Rattle.dist_outside.specs.declared.trouble.What.{What}
-use Rattle.dist_outside.specs.declared.trouble.WorkError.{WorkError}
 use Rattle.dist_repo.specs.Order.{IsLatestOf}
 use Rattle.dist_repo.specs.PackageList.{PackageList}
 use Rattle.dist_space.specs.Space.{SpaceView}
@@ -15,19 +14,22 @@ use Rattle.dist_now.specs.Health.{IsHealth}
 use Rattle.dist_now.specs.declared.kinds.Health.TheVariants.{Healthy}
 use Rattle.dist_budget.specs.Budget.{IsBelowBudget}
 use Rattle.dist_cert.specs.Part.{IsStoppedBy}
+use Rattle.dist_cert.specs.declared.faults.ReadCertError.{ReadCertError}
+use Rattle.dist_cert.specs.declared.faults.ReadCertError.TheVariants.{Bad, Work}
 use Rattle.dist_cert.specs.declared.records.CertKind.{CertKind}
 use Rattle.dist_cert.specs.declared.records.Claim.{Claim}
 use Rattle.dist_cert.specs.declared.records.Header.{Header}
 use Rattle.dist_subject.specs.Basis.{matter_of}
 use Rattle.dist_sweep.specs.Sweep.{OfSweep}
-use Rattle.dist_check.specs.Answers.{IsOfText}
-use Rattle.dist_check.specs.declared.verdict.Verdict.{Verdict}
-use Rattle.dist_check.specs.declared.verdict.Verdict.TheVariants.{Accepted, Refused}
+use Rattle.dist_explain.specs.declared.explained.Explained.{Explained}
+use Rattle.dist_explain.specs.declared.verdict.ExplainHeader.{ExplainHeader}
 use Rattle.dist_journal.specs.declared.fault.FollowError.{FollowError}
 use Rattle.dist_journal.specs.declared.fault.FollowError.TheVariants as follow_error
-use Rattle.dist_words.specs.CommandLine.{Health, Classes, Sweep, Check, Try, Steps, Follow}
+use Rattle.dist_words.specs.CommandLine.{Health, Classes, Sweep, Check, CheckExplain, Try, Steps, Follow}
 use Rattle.dist_words.specs.Table.{command_of}
-use Rattle.dist_app.specs.Check.{CertificateStage, IsJudged}
+use Rattle.dist_app.specs.Check.{CertificateAnswers, CertificateStage}
+use Rattle.dist_app.specs.CheckExplain.{ExplanationReads, explained_status}
+use Rattle.dist_app.specs.CheckedFile.{IsOneAnswer}
 use Rattle.dist_app.specs.Claims.{claims_status}
 use Rattle.dist_app.specs.Follow.{IsStoppedFor}
 use Rattle.dist_app.specs.Headline.{IsCarriedOut}
@@ -103,22 +105,40 @@ TrialIsComplete words limits result files out out' = ¬ Rose out.faults out'.fau
     → (result ≡ NoMemory) ⊎ (IsCarriedOut result
     ⊎ ((kind : CertKind) × (text : List ℕ) × StopsBelowBudget r kind false DEFAULT_LIMIT limits result text))
 
--- ---- `check`
+-- ---- files that are checked
 
--- the status that goes with an answer on a certificate
-abbrev pub verdict_status : Result Verdict WorkError → Status
-verdict_status (Ok (Accepted h made)) = claims_status made
-verdict_status (Ok (Refused fault)) = CertificateRefused
-verdict_status (Err error) = TooLarge
+-- the status that goes with a fault, and with a number that is passed
+abbrev pub error_status : ReadCertError → Status
+error_status (Bad fault) = CertificateRefused
+error_status (Work error) = TooLarge
 
--- The status is that of the one answer of CERT: it is accepted, or refused, or passes a number.
+-- the status that goes with an answer, by what an accepted file says
+abbrev pub answer_status : {X : Type 0} → (X → Status) → Result X ReadCertError → Status
+answer_status status (Ok x) = status x
+answer_status status (Err error) = error_status error
+
+-- the status of what an accepted certificate says, and an accepted file of an explanation
+abbrev pub told_claims : Header × List Claim → Status
+told_claims accepted = claims_status accepted.1
+
+abbrev pub told_explained : ExplainHeader × Explained → Status
+told_explained accepted = explained_status accepted.1
+
+-- The status is that of the file's one answer: it is accepted, or refused, or passes a number.
+abbrev pub IsStatusOfFile : {X : Type 0} → (List ℕ → Result X ReadCertError → Type 0) → Option Files
+    → (name : List ℕ) → (X → Status) → Status → Type 0
+IsStatusOfFile {X} Answers files name told status = (answer : Result X ReadCertError)
+    × IsOneAnswer Answers files name answer × (status ≡ answer_status told answer)
+
 abbrev pub CheckIsComplete : List (List ℕ) → Limits → Status → Option Files → Type 0
 CheckIsComplete words limits result files = (packages cert : List ℕ) (r : PackageList)
-    → command_of words ≡ Some (Check packages cert)
-    → PackagesStage files limits packages (Goes r)
-    → (result ≡ NoMemory) ⊎ ((answer : Result Verdict WorkError) × IsOfText answer × IsJudged files limits cert r answer
-    × (result ≡ verdict_status answer)
-    × ((other : Result Verdict WorkError) → IsOfText other → IsJudged files limits cert r other → other ≡ answer))
+    → command_of words ≡ Some (Check packages cert) → PackagesStage files limits packages (Goes r)
+    → (result ≡ NoMemory) ⊎ IsStatusOfFile (CertificateAnswers r limits) files cert told_claims result
+
+abbrev pub CheckExplainIsComplete : List (List ℕ) → Limits → Status → Option Files → Type 0
+CheckExplainIsComplete words limits result files = (packages cert : List ℕ) (r : PackageList)
+    → command_of words ≡ Some (CheckExplain packages cert) → PackagesStage files limits packages (Goes r)
+    → (result ≡ NoMemory) ⊎ IsStatusOfFile (ExplanationReads r limits) files cert told_explained result
 
 -- ---- `steps`
 
@@ -138,17 +158,17 @@ StepsAreComplete words limits result files =
 
 -- ---- `follow`
 
--- CERT is not accepted: the status is that of its one answer, as of `check`.
-abbrev pub IsNotAccepted : Result Verdict WorkError → Type 0
-IsNotAccepted (Ok (Accepted h made)) = ⊥
-IsNotAccepted answer = Unit {0}
+-- of an accepted file nothing, and else its status
+abbrev pub IsStatusOfRefused : {X : Type 0} → Result X ReadCertError → Status → Type 0
+IsStatusOfRefused (Ok x) status = Unit {0}
+IsStatusOfRefused (Err error) status = status ≡ error_status error
 
+-- CERT has one answer, as of `check`, and where it is not accepted, that decides the status.
 abbrev pub FollowJudges : List (List ℕ) → Limits → Status → Option Files → Type 0
-FollowJudges words limits result files =
-    (packages cert journal : List ℕ) (r : PackageList) (answer : Result Verdict WorkError)
+FollowJudges words limits result files = (packages cert journal : List ℕ) (r : PackageList)
     → command_of words ≡ Some (Follow packages cert journal) → PackagesStage files limits packages (Goes r)
-    → IsOfText answer → IsJudged files limits cert r answer → IsNotAccepted answer
-    → (result ≡ NoMemory) ⊎ (result ≡ verdict_status answer)
+    → (result ≡ NoMemory) ⊎ ((answer : Result (Header × List Claim) ReadCertError)
+    × IsOneAnswer (CertificateAnswers r limits) files cert answer × IsStatusOfRefused answer result)
 
 -- the status that goes with what stops a journal
 abbrev pub stop_status : FollowError → Status
@@ -181,6 +201,7 @@ pub record Completes (words : List (List ℕ)) (limits : Limits) (result : Statu
     pub classes : ClassesAreComplete words limits result files
     pub sweep : SweepIsComplete words limits result files left
     pub check : CheckIsComplete words limits result files
+    pub check_explain : CheckExplainIsComplete words limits result files
     pub steps : StepsAreComplete words limits result files
     pub follow_judges : FollowJudges words limits result files
     pub follow : FollowIsComplete words limits result files

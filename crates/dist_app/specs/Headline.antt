@@ -1,4 +1,4 @@
--- What a run that sweeps, and one of `check`, `steps` and `follow` prove.
+-- What a run that sweeps, and one of `check`, `check-explain`, `steps` and `follow` prove.
 use Rattle.std.specs.Prelude.{◌≡◌, ◌↔◌, ◌≤◌, ◌^◌, ℕ, Bool, false, List, Some, Contains, length, slice_get}
 use Rattle.dist_outside.specs.DeskView.{DeskView}
 use Rattle.dist_outside.specs.Files.{IsPresent, file_bytes, with_file}
@@ -24,13 +24,18 @@ use Rattle.dist_subject.specs.Completed.{IsCompleted}
 use Rattle.dist_subject.specs.Basis.{Basis, matter_of}
 use Rattle.dist_sweep.specs.Sweep.{IsSweep}
 use Rattle.dist_check.specs.Answers.{AcceptedMeans}
+use Rattle.dist_explain.specs.Verdicts.{AcceptedMeans as ExplanationMeans, IsExplanation}
+use Rattle.dist_explain.specs.declared.explained.Explained.{Explained}
+use Rattle.dist_explain.specs.declared.verdict.ExplainHeader.{ExplainHeader}
 use Rattle.dist_judge.specs.Judging.{OfText}
 use Rattle.dist_check.specs.Means.{Means}
+use Rattle.dist_report.specs.ExplainedText.{IsExplainedText}
 use Rattle.dist_history.specs.PlanText.{misfit_text, plan_text}
 use Rattle.dist_journal.specs.declared.broken_list.Broken.{Broken}
 use Rattle.dist_history.specs.FollowText.{follow_text}
-use Rattle.dist_words.specs.CommandLine.{Sweep, Check, Steps, Follow}
+use Rattle.dist_words.specs.CommandLine.{Sweep, Check, CheckExplain, Steps, Follow}
 use Rattle.dist_words.specs.Table.{command_of}
+use Rattle.dist_app.specs.CheckExplain.{explained_status}
 use Rattle.dist_app.specs.Claims.{IsReportOf, claims_status}
 use Rattle.dist_app.specs.Follow.{AreToldBroken, IsFollowedWhole, StaysBroken}
 use Rattle.dist_app.specs.PackagesStage.{PackagesStage}
@@ -80,6 +85,24 @@ pub record ProvesCheck (limits : Limits) (packages cert : List ℕ) (result : St
   pub is_report : IsReportOf repository header.kind header.limit made report
   pub printed : Grew report out out'
   pub status : result ≡ claims_status made
+
+-- PACKAGES has a repository, and the file CERT was accepted over all its versions, whoever wrote it, with a header and
+-- an answer. What is answered of the package is true: it is installable; or relations are told, which explain it
+-- together, and each of them without a mark is needed. All files are as before.
+pub record ProvesExplained (limits : Limits) (packages cert : List ℕ) (result : Status) (desk desk' : DeskView)
+    (out out' : SinkView) : Type 0 where
+  pub repository : PackageList
+  pub read : PackagesStage desk.files limits packages (Goes repository)
+  pub header : ExplainHeader
+  pub explained : Explained
+  pub present : IsPresent desk.files cert
+  pub accepted : OfText (file_bytes desk.files cert) (λ text. IsExplanation repository limits text header explained)
+  pub files : desk'.files ≡ desk.files
+  pub means : ExplanationMeans repository header explained
+  pub told : List ℕ
+  pub is_told : IsExplainedText repository header.«package» explained told
+  pub printed : Grew told out out'
+  pub status : result ≡ explained_status explained
 
 -- The newest versions of PACKAGES and of LATER, and the space of the first ones.
 pub record AreCompared (limits : Limits) (packages later : List ℕ) (desk : DeskView) : Type 0 where
@@ -152,6 +175,12 @@ abbrev pub CheckIsProved : List (List ℕ) → Limits → Status → DeskView �
 CheckIsProved words limits result desk desk' out out' = (packages cert : List ℕ)
     → command_of words ≡ Some (Check packages cert) → IsCarriedOut result
     → ProvesCheck limits packages cert result desk desk' out out'
+
+-- and of one of `check-explain`
+abbrev pub CheckExplainIsProved : List (List ℕ) → Limits → Status → DeskView → DeskView → SinkView → SinkView → Type 0
+CheckExplainIsProved words limits result desk desk' out out' = (packages cert : List ℕ)
+    → command_of words ≡ Some (CheckExplain packages cert) → IsCarriedOut result
+    → ProvesExplained limits packages cert result desk desk' out out'
 
 -- and of one of `steps`: with status 0 a plan, with status 12 a package that keeps LATER from being a future
 abbrev pub StepsAreProved : List (List ℕ) → Limits → Status → DeskView → DeskView → SinkView → SinkView → Type 0

@@ -1,6 +1,8 @@
 pub mod CarriedPrivate
 pub mod CauseText
 pub mod Check
+pub mod CheckExplain
+pub mod CheckedFile
 pub mod Claims
 pub mod Classes
 pub mod Command

@@ -1,10 +1,12 @@
-//! The stage that accepts a certificate.
+//! The stages that accept a file: a certificate, or an explanation.
 ghost use Rattle.std.specs.Prelude.{IfErr, IfOk};
 ghost use Rattle.dist_outside.specs.DeskView.{OnlyReads};
 ghost use Rattle.dist_outside.specs.Files.{IsNotWriting};
 ghost use Rattle.dist_repo.specs.Size.{IsWithinSize};
 ghost use Rattle.dist_check.specs.Answers.{AcceptedMeans};
+ghost use Rattle.dist_explain.specs.Verdicts.{AcceptedMeans as ExplanationMeans};
 ghost use Rattle.dist_app.specs.Check.{CertificateStage};
+ghost use Rattle.dist_app.specs.CheckExplain.{ExplanationStage};
 ghost use Rattle.dist_app.specs.DuePrivate.{IsDue};
 ghost use Rattle.dist_app.specs.Run.{IsWithinStated};
 ghost use Rattle.dist_app.specs.Stages.{Ends, Goes};
@@ -12,6 +14,7 @@ ghost use Rattle.dist_app.specs.Stages.{Ends, Goes};
 use crate::refusal::{Refusal, refusal_of};
 use dist_cert::{Claims, Header};
 use dist_check::{Verdict, check};
+use dist_explain::{ExplainHeader, ExplainVerdict, Explained, check_explained};
 use dist_outside::{Desk, Limits};
 use dist_repo::Repository;
 use std::alloc::Global;
@@ -43,6 +46,40 @@ pub(crate) fn accept<D: Desk>(
     match check(alloc, repository, desk, cert, limits) {
         Ok(Verdict::Accepted(header, claims)) => Ok(Accepted { header, claims }),
         Ok(Verdict::Refused(fault)) => Err(Refusal::CertificateRefused(fault)),
+        Err(error) => Err(refusal_of(error)),
+    }
+}
+
+/// The header of an accepted file of an explanation, and what it answers.
+#[derive(Drop)]
+pub(crate) struct AcceptedExplanation {
+    pub(crate) header: ExplainHeader,
+    pub(crate) explained: Explained,
+}
+
+/// What CERT answers of a package of a repository, if it is accepted.
+pub(crate) fn accept_explanation<D: Desk>(
+    alloc: Global,
+    desk: &mut D,
+    repository: &Repository,
+    cert: &str,
+    limits: &Limits,
+) -> Result<AcceptedExplanation, Refusal>
+    requires not_writing { IsNotWriting (D.view desk.old).mode }
+    requires within { IsWithinStated limits.now }
+    requires within_size { IsWithinSize repository.now }
+    ensures goes { IfOk result (λ accepted. ExplanationStage (D.view desk.old).files limits.now cert.now repository.now
+        (Goes (accepted.header, accepted.explained))) }
+    ensures means { IfOk result (λ accepted. ExplanationMeans repository.now accepted.header accepted.explained) }
+    ensures due { IfErr result (IsDue (λ ending. ExplanationStage (D.view desk.old).files limits.now cert.now repository.now (Ends ending))
+        (D.view desk.old) (D.view desk.new)) }
+    ensures only_reads { OnlyReads (D.view desk.old) (D.view desk.new) }
+{
+    match check_explained(alloc, repository, desk, cert, limits) {
+        Ok(ExplainVerdict::Accepted(header, explained)) => {
+            Ok(AcceptedExplanation { header, explained })
+        }
+        Ok(ExplainVerdict::Refused(fault)) => Err(Refusal::CertificateRefused(fault)),
         Err(error) => Err(refusal_of(error)),
     }
 }

@@ -2,7 +2,7 @@
 ghost use Rattle.std.specs.Prelude.{◌≡◌, ℕ, List, map, string_bytes, MatchResult};
 ghost use Rattle.dist_outside.specs.Files.{IsNotWriting};
 ghost use Rattle.dist_app.specs.Complete.{IsComplete};
-ghost use Rattle.dist_app.specs.Headline.{CheckIsProved, FollowIsProved, MarksAreTried, StepsAreProved, SweepIsProved, UndecidedAreHard};
+ghost use Rattle.dist_app.specs.Headline.{CheckExplainIsProved, CheckIsProved, FollowIsProved, MarksAreTried, StepsAreProved, SweepIsProved, UndecidedAreHard};
 ghost use Rattle.dist_app.specs.Run.{IsWithinStated, Leaves, Runs, stated_limits};
 ghost use Rattle.dist_app.specs.CarriedPrivate.{IsAnswered, IsRefused, Prints};
 
@@ -15,6 +15,7 @@ use dist_budget::budgets_are_enough;
 use dist_check::{
     accepted_claims_hold, marks_are_tried, texts_have_one_answer, undecided_questions_are_hard,
 };
+use dist_explain::explanations_have_one_answer;
 use dist_journal::journals_have_one_end;
 use dist_list::lists_are_exact;
 use dist_now::one_health;
@@ -42,6 +43,8 @@ pub fn run<D: Desk, W: Sink, E: Sink>(
     ensures sweep { SweepIsProved (map string_bytes words.now) stated_limits result (D.view desk.old) (D.view desk.new)
         (W.view out.old) (W.view out.new) }
     ensures check { CheckIsProved (map string_bytes words.now) stated_limits result (D.view desk.old) (D.view desk.new)
+        (W.view out.old) (W.view out.new) }
+    ensures check_explain { CheckExplainIsProved (map string_bytes words.now) stated_limits result (D.view desk.old) (D.view desk.new)
         (W.view out.old) (W.view out.new) }
     ensures steps { StepsAreProved (map string_bytes words.now) stated_limits result (D.view desk.old) (D.view desk.new)
         (W.view out.old) (W.view out.new) }
@@ -72,6 +75,8 @@ pub fn run_with<D: Desk, W: Sink, E: Sink>(
         (W.view out.old) (W.view out.new) }
     ensures check { CheckIsProved (map string_bytes words.now) limits.now result (D.view desk.old) (D.view desk.new)
         (W.view out.old) (W.view out.new) }
+    ensures check_explain { CheckExplainIsProved (map string_bytes words.now) limits.now result (D.view desk.old) (D.view desk.new)
+        (W.view out.old) (W.view out.new) }
     ensures steps { StepsAreProved (map string_bytes words.now) limits.now result (D.view desk.old) (D.view desk.new)
         (W.view out.old) (W.view out.new) }
     ensures follow { FollowIsProved (map string_bytes words.now) limits.now result (D.view desk.old) (D.view desk.new)
@@ -85,6 +90,7 @@ pub fn run_with<D: Desk, W: Sink, E: Sink>(
     one_health();
     budgets_are_enough();
     texts_have_one_answer();
+    explanations_have_one_answer();
     first_numbers_are_one();
     lists_are_exact();
     latest_is_one();

@@ -2,7 +2,7 @@
 -- installed.
 use Rattle.std.specs.Prelude.{◌≡◌, ℕ, ◌+◌, List, [], ◌∷◌, ◌++◌, codes, if◌then◌else◌, slice_get}
 use Rattle.std.specs.Option.{option_map_or}
-use Rattle.dist_cert.specs.Rising.{AreRising, is_among}
+use Rattle.dist_cert.specs.Rising.{is_among}
 use Rattle.dist_relation.specs.Canonical.{alternatives_text}
 use Rattle.dist_repo.specs.PackageList.{PackageList}
 use Rattle.dist_repo.specs.declared.package.Package.{Package}
@@ -54,9 +54,3 @@ abbrev pub IsExplainedText : PackageList → ℕ → Explained → List ℕ → 
 IsExplainedText r number explained text = (list : List Relation) × AreRelationsOf r list
     × (text ≡ codes "package " ++ (label_at r.packages number
     ++ (codes "\n" ++ answer_lines r.packages list explained)))
-
--- the numbers of an answer rise
-abbrev pub HasOrder : Explained → Type 0
-HasOrder Installable = Unit {0}
-HasOrder Undecided = Unit {0}
-HasOrder (Broken needed undecided) = AreRising needed × AreRising undecided

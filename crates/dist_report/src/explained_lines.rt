@@ -1,11 +1,11 @@
 //! The text that tells what is answered of a package.
-ghost use Rattle.std.specs.Prelude.{◌≡◌, ◌++◌, IfOk, OnOk};
+ghost use Rattle.std.specs.Prelude.{◌≡◌, ◌++◌, IfOk, OnOk, ℕ};
 ghost use Rattle.dist_cert.specs.Rising.{AreRising, is_among};
-ghost use Rattle.dist_report.specs.ExplainedText.{HasOrder, IsExplainedText, answer_lines, item_at, label_at, marked_line, marked_lines, relation_line};
+ghost use Rattle.dist_report.specs.ExplainedText.{IsExplainedText, answer_lines, item_at, label_at, marked_line, marked_lines, relation_line};
 
 use crate::lines::print_label;
 use dist_check_group::has;
-use dist_explain::{Explained, Relation, relations_of};
+use dist_explain::{Explained, Relation, put_in_order, relations_of};
 use dist_relation::print_alternatives;
 use dist_repo::Repository;
 use std::alloc::{AllocError, Global};
@@ -123,14 +123,40 @@ fn write_all_marked(
     Ok(())
 }
 
+/// Numbers in their order, each once.
+fn in_order(alloc: Global, numbers: &[u32]) -> Result<Vec<u32>, AllocError>
+    ensures rising { IfOk result (λ list. AreRising list.items) }
+    ensures same { IfOk result (λ list. (number : ℕ) → is_among list.items number ≡ is_among numbers.now number) }
+{
+    let mut list = numbers.to_vec(alloc)?;
+    put_in_order(&mut list);
+    Ok(list)
+}
+
+/// Adds the lines of the relations that are needed or undecided, in whatever order their numbers stand.
+fn write_broken(
+    alloc: Global,
+    out: &mut Vec<u8>,
+    repo: &Repository,
+    needed: &[u32],
+    undecided: &[u32],
+    list: &[Relation],
+) -> Result<(), AllocError>
+    ensures { OnOk result (out.new.items ≡ out.old.items ++ marked_lines repo.now.packages needed.now undecided.now 1 list.now) }
+{
+    let needed_in_order = in_order(alloc, needed)?;
+    let undecided_in_order = in_order(alloc, undecided)?;
+    write_all_marked(out, repo, &needed_in_order, &undecided_in_order, list)
+}
+
 /// Adds what is answered.
 fn write_answer(
+    alloc: Global,
     out: &mut Vec<u8>,
     repo: &Repository,
     list: &[Relation],
     explained: &Explained,
 ) -> Result<(), AllocError>
-    requires { HasOrder explained.now }
     ensures { OnOk result (out.new.items ≡ out.old.items ++ answer_lines repo.now.packages list.now explained.now) }
 {
     match explained {
@@ -138,25 +164,31 @@ fn write_answer(
         Explained::Undecided => out.extend_from_slice(b"undecided\n"),
         Explained::Broken(needed, undecided) => {
             out.extend_from_slice(b"broken\n")?;
-            write_all_marked(out, repo, needed.as_slice(), undecided.as_slice(), list)
+            write_broken(
+                alloc,
+                out,
+                repo,
+                needed.as_slice(),
+                undecided.as_slice(),
+                list,
+            )
         }
     }
 }
 
-/// The text that tells what is answered of a package.
+/// The text that tells what is answered of a package. The relations are told in their own order.
 pub fn explained_text(
     alloc: Global,
     repo: &Repository,
     package: u32,
     explained: &Explained,
 ) -> Result<Vec<u8>, AllocError>
-    requires { HasOrder explained.now }
     ensures { IfOk result (λ text. IsExplainedText repo.now «package» explained.now text.items) }
 {
     let list = relations_of(alloc, repo)?;
     let mut out = b"package ".to_vec(alloc)?;
     write_label_at(&mut out, repo, package)?;
     out.push(b'\n')?;
-    write_answer(&mut out, repo, &list, explained)?;
+    write_answer(alloc, &mut out, repo, &list, explained)?;
     Ok(out)
 }

@@ -2,6 +2,7 @@
 //! of tests share. For tests alone.
 #![tactic(auto)]
 
+pub mod check_explain_rows;
 pub mod check_rows;
 pub mod classes_rows;
 pub mod essential_rows;

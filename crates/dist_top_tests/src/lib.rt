@@ -2,6 +2,8 @@
 #![tactic(auto)]
 
 #[cfg(test)]
+mod check_explain_rows;
+#[cfg(test)]
 mod check_rows;
 #[cfg(test)]
 mod classes_reports;

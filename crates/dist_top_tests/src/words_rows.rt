@@ -3,7 +3,7 @@ use dist_top_rows::words_rows::{COMMAND, NO_COMMAND};
 use dist_top_rows::{Row, Table, first_wrong};
 use std::test::Fail;
 
-const NO_COMMANDS: [Row; 13] = [
+const NO_COMMANDS: [Row; 15] = [
     Row {
         words: &[],
         ..NO_COMMAND
@@ -19,6 +19,14 @@ const NO_COMMANDS: [Row; 13] = [
     },
     Row {
         words: &["check", "packages", "list", "--essential"],
+        ..NO_COMMAND
+    },
+    Row {
+        words: &["check-explain", "packages"],
+        ..NO_COMMAND
+    },
+    Row {
+        words: &["check-explain", "packages", "list", "--limit", "3"],
         ..NO_COMMAND
     },
     Row {

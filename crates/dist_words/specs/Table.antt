@@ -1,15 +1,16 @@
 -- The table of the commands: for each word the number of files and the options that may stand with it.
 --
---   command       files                    options
---   health        PACKAGES LIST            none
---   classes       PACKAGES                 none
---   strong        PACKAGES CERT            --limit, --essential
---   outdated      PACKAGES CERT            --limit, --essential
---   challenged    PACKAGES CERT            --limit, --essential
---   check         PACKAGES CERT            none
---   try           none                     --size and --seed, both needed
---   steps         PACKAGES LATER           none
---   follow        PACKAGES CERT JOURNAL    none
+--   command          files                    options
+--   health           PACKAGES LIST            none
+--   classes          PACKAGES                 none
+--   strong           PACKAGES CERT            --limit, --essential
+--   outdated         PACKAGES CERT            --limit, --essential
+--   challenged       PACKAGES CERT            --limit, --essential
+--   check            PACKAGES CERT            none
+--   check-explain    PACKAGES CERT            none
+--   try              none                     --size and --seed, both needed
+--   steps            PACKAGES LATER           none
+--   follow           PACKAGES CERT JOURNAL    none
 use Rattle.std.specs.Prelude.{◌≡◌, ℕ, ◌&&◌, Bool, not, List, [], ◌∷◌, Option, Some, None, is_some, if◌then◌else◌, codes}
 use Rattle.std.specs.Prelude.{unwrap_or}
 use Rattle.std.specs.Str.{bytes_eq}
@@ -19,7 +20,7 @@ use Rattle.dist_cert.specs.declared.records.CertKind.TheVariants.{Strong, Outdat
 use Rattle.clap.specs.Walk.{Text, is_empty}
 use Rattle.clap.specs.Faults.{fault_of}
 use Rattle.dist_words.specs.Clap.{Options, Taken, simple_command, taken}
-use Rattle.dist_words.specs.CommandLine.{CommandLine, Health, Classes, Sweep, Check, Try, Steps, Follow}
+use Rattle.dist_words.specs.CommandLine.{CommandLine, Health, Classes, Sweep, Check, CheckExplain, Try, Steps, Follow}
 
 -- ---- options
 
@@ -86,11 +87,13 @@ in_table word files options =
     else (if bytes_eq word (codes "outdated") then swept Outdated files options
     else (if bytes_eq word (codes "challenged") then swept Challenged files options
     else (if bytes_eq word (codes "check") then where_allowed (has_no_option options) (with_two Check files)
+    else (if bytes_eq word (codes "check-explain") then where_allowed (has_no_option options)
+    (with_two CheckExplain files)
     else (if bytes_eq word (codes "try") then where_allowed (has_no_limit options)
     (with_none (seeded options.size options.seed) files)
     else (if bytes_eq word (codes "steps") then where_allowed (has_no_option options) (with_two Steps files)
     else (if bytes_eq word (codes "follow") then where_allowed (has_no_option options) (with_three Follow files)
-    else None))))))))
+    else None)))))))))
 
 -- the command that the table has for what was taken
 abbrev pub accepted : Taken → Option CommandLine

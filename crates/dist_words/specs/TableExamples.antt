@@ -1,6 +1,6 @@
 -- Worked examples of the table.
 use Rattle.std.specs.Prelude.{◌≡◌, true, false, [], ◌∷◌, Some, None, codes, refl}
-use Rattle.dist_words.specs.CommandLine.{Follow, Steps, Sweep, Try}
+use Rattle.dist_words.specs.CommandLine.{CheckExplain, Follow, Steps, Sweep, Try}
 use Rattle.dist_cert.specs.declared.records.CertKind.TheVariants.{Strong, Challenged}
 use Rattle.dist_words.specs.Table.{in_table}
 
@@ -21,6 +21,11 @@ check_takes_no_limit : in_table (codes "check") (codes "f" ∷ codes "g" ∷ [])
     (record { limit = Some 3; size = None; seed = None; essential = false })
     ≡ None
 check_takes_no_limit = refl
+
+-- `check-explain f g`
+check_explain_takes_two_files : in_table (codes "check-explain") (codes "f" ∷ codes "g" ∷ [])
+    (record { limit = None; size = None; seed = None; essential = false }) ≡ Some (CheckExplain (codes "f") (codes "g"))
+check_explain_takes_two_files = refl
 
 -- `strong f --essential`
 strong_takes_two_files : in_table (codes "strong") (codes "f" ∷ [])

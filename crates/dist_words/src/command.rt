@@ -8,7 +8,7 @@ pub struct HealthFiles<'a> {
     pub list: &'a str,
 }
 
-/// The two files of `check PACKAGES CERT`.
+/// The two files of `check` and of `check-explain PACKAGES CERT`.
 #[derive(Clone, Copy, Debug)]
 pub struct CertFiles<'a> {
     pub packages: &'a str,
@@ -58,6 +58,7 @@ pub enum Command<'a> {
     Classes(&'a str),
     Sweep(SweepWords<'a>),
     Check(CertFiles<'a>),
+    CheckExplain(CertFiles<'a>),
     Try(TryWords),
     Steps(StepsFiles<'a>),
     Follow(FollowFiles<'a>),

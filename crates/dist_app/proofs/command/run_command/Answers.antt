@@ -1,9 +1,10 @@
 use Rattle.dist_app.specs.Check.{CheckStages, Reports}
+use Rattle.dist_app.specs.CheckExplain.{CheckExplainStages, TellsExplained}
 use Rattle.dist_app.specs.Follow.{FollowStages, TellsFollowed}
 use Rattle.dist_app.specs.Health.{HealthStages, Judges}
 use Rattle.dist_app.specs.Steps.{StepsStages, TellsLater}
 use Rattle.dist_app.specs.Try.{Tries, TryStages}
-use Rattle.dist_words.specs.CommandLine.{Check, Follow, Health, Steps, Try}
+use Rattle.dist_words.specs.CommandLine.{Check, CheckExplain, Follow, Health, Steps, Try}
 use Rattle.dist_outside.specs.DeskView.{DeskView}
 use Rattle.dist_app.proofs.Due.{apart_stops, ok_more, err_more, read_answers, due_stops}
 use Rattle.dist_app.proofs.command.run_command.Goals as goal
@@ -28,6 +29,15 @@ returns-in-Check-clause-stops g c =
     rw c.in-Check.is (err_more c.run_check.result _ _ (λ why. due_stops (Check c.in-Check.files.packages.now c.in-Check.files.cert.now) c.args.limits.now
     (CheckStages desk.files c.args.limits.now c.in-Check.files.packages.now c.in-Check.files.cert.now (Reports desk.files))
     desk (g.D.Desk.view c.run_check.new.desk) why (λ ending decides. decides) (λ apart. apart) c.run_check.ensures.only_reads) c.run_check.ensures.due)
+
+pub returns-in-CheckExplain-clause-stops : goal.returns-in-CheckExplain-clause-stops
+returns-in-CheckExplain-clause-stops g c =
+    let desk : DeskView = g.D.Desk.view c.args.desk.now in
+    let files = c.in-CheckExplain.files in
+    rw c.in-CheckExplain.is (err_more c.run_check_explain.result _ _ (λ why. due_stops (CheckExplain files.packages.now files.cert.now) c.args.limits.now
+    (CheckExplainStages desk.files c.args.limits.now files.packages.now files.cert.now (TellsExplained desk.files))
+    desk (g.D.Desk.view c.run_check_explain.new.desk) why (λ ending decides. decides) (λ apart. apart) c.run_check_explain.ensures.only_reads)
+    c.run_check_explain.ensures.due)
 
 pub returns-in-Try-clause-answers : goal.returns-in-Try-clause-answers
 returns-in-Try-clause-answers g c =

@@ -1,10 +1,11 @@
 use Rattle.std.proofs.Common.{map, string_bytes, subst, sym}
-use Rattle.dist_app.specs.Headline.{CheckIsProved, FollowIsProved, StepsAreProved, SweepIsProved}
+use Rattle.dist_app.specs.Headline.{CheckExplainIsProved, CheckIsProved, FollowIsProved, StepsAreProved, SweepIsProved}
 use Rattle.dist_app.specs.Run.{Runs}
 use Rattle.dist_app.specs.declared.status.Status.{Status}
 use Rattle.dist_app.proofs.CommandLaws.{one-space}
 use Rattle.dist_app.proofs.Completes.{run_completes}
-use Rattle.dist_app.proofs.Headlines.{check_proved, check_refused, follow_proved, follow_refused, steps_proved, steps_refused, sweep_proved, sweep_refused}
+use Rattle.dist_app.proofs.Headlines.{check_explain_proved, check_explain_refused, check_proved, check_refused, follow_proved, follow_refused}
+use Rattle.dist_app.proofs.Headlines.{steps_proved, steps_refused, sweep_proved, sweep_refused}
 use Rattle.dist_app.proofs.Runs.{answered_runs, refused_runs}
 use Rattle.dist_app.proofs.top_call.run_with.Goals as goal
 
@@ -14,6 +15,7 @@ returns-in-Ok-clause-runs g c =
       packages = c.packages_are_exact.ensures;
       lists = c.lists_are_exact.ensures;
       certificates = c.texts_have_one_answer.ensures;
+      explanations = c.explanations_have_one_answer.ensures;
       numbers = c.first_numbers_are_one.ensures.one;
       spaces = one-space c.latest_is_one.ensures.one c.spaces_are_one.ensures;
       journals = c.journals_have_one_end.ensures;
@@ -31,6 +33,7 @@ returns-in-Err-clause-runs g c =
       packages = c.packages_are_exact.ensures;
       lists = c.lists_are_exact.ensures;
       certificates = c.texts_have_one_answer.ensures;
+      explanations = c.explanations_have_one_answer.ensures;
       numbers = c.first_numbers_are_one.ensures.one;
       spaces = one-space c.latest_is_one.ensures.one c.spaces_are_one.ensures;
       journals = c.journals_have_one_end.ensures;
@@ -66,6 +69,20 @@ returns-in-Err-clause-check g c =
     (sym c.status-status.ensures)
     (check_refused _ c.args.limits.now c.in-Err.refusal (g.D.Desk.view c.args.desk.now) (g.D.Desk.view c.carry_out.new.desk) (g.W.Sink.view c.args.out.now)
     (g.W.Sink.view c.carry_out.new.out))
+
+pub returns-in-Ok-clause-check_explain : goal.returns-in-Ok-clause-check_explain
+returns-in-Ok-clause-check_explain g c =
+    check_explain_proved _ c.args.limits.now c.in-Ok.status (g.D.Desk.view c.args.desk.now) (g.D.Desk.view c.carry_out.new.desk)
+    (g.W.Sink.view c.args.out.now) (g.W.Sink.view c.carry_out.new.out)
+    c.in-Ok.ensures.ends
+
+pub returns-in-Err-clause-check_explain : goal.returns-in-Err-clause-check_explain
+returns-in-Err-clause-check_explain g c =
+    subst (λ (s : Status). CheckExplainIsProved (map string_bytes c.args.words.now) c.args.limits.now s (g.D.Desk.view c.args.desk.now)
+    (g.D.Desk.view c.carry_out.new.desk) (g.W.Sink.view c.args.out.now) (g.W.Sink.view c.carry_out.new.out))
+    (sym c.status-status.ensures)
+    (check_explain_refused _ c.args.limits.now c.in-Err.refusal (g.D.Desk.view c.args.desk.now) (g.D.Desk.view c.carry_out.new.desk)
+    (g.W.Sink.view c.args.out.now) (g.W.Sink.view c.carry_out.new.out))
 
 pub returns-in-Ok-clause-steps : goal.returns-in-Ok-clause-steps
 returns-in-Ok-clause-steps g c =
@@ -115,6 +132,7 @@ returns-in-Ok-clause-complete g c =
         packages = c.packages_are_exact.ensures;
         lists = c.lists_are_exact.ensures;
         certificates = c.texts_have_one_answer.ensures;
+        explanations = c.explanations_have_one_answer.ensures;
         numbers = c.first_numbers_are_one.ensures.one;
         spaces = one-space c.latest_is_one.ensures.one c.spaces_are_one.ensures;
         journals = c.journals_have_one_end.ensures;
@@ -135,6 +153,7 @@ returns-in-Err-clause-complete g c =
         packages = c.packages_are_exact.ensures;
         lists = c.lists_are_exact.ensures;
         certificates = c.texts_have_one_answer.ensures;
+        explanations = c.explanations_have_one_answer.ensures;
         numbers = c.first_numbers_are_one.ensures.one;
         spaces = one-space c.latest_is_one.ensures.one c.spaces_are_one.ensures;
         journals = c.journals_have_one_end.ensures;
