@@ -54,8 +54,7 @@ pub fn marked_relations_are_answered()
     ensures { (asked : Asked) (found : List Finding) (notes : NotesView) (numbers : List ℕ) (later : List Finding)
         → asked.number ≤ asked.packages → AreNotesOf asked found notes → AreLast asked found numbers later
         → All (IsMarkedIn asked numbers later) numbers → AreAnswered asked found }
-{
-}
+{}
 
 /// A text has one answer, but for a fault of reading and want of memory.
 pub fn explanations_have_one_answer()

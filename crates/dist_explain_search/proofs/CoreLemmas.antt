@@ -169,28 +169,31 @@ module _ (asked : Asked) (core : List ℕ) (one : ℕ) (done : List ℕ) (are : 
           grew = x.grew;
           in_order = x.in_order;
           searching = x.searching;
-          holds = (later ++ f ∷ [], record {
-            are_last = subst (λ (fs : List Finding). AreLast asked fs core (later ++ f ∷ [])) (sym x.finds)
-                (last-more asked (findings lines) core later f at.are_last not);
-            refuted = at.refuted;
-            have_marks = All-push (IsMarkedIn asked core (later ++ f ∷ [])) done one
-                (All-weaker (IsMarkedIn asked core later) (IsMarkedIn asked core (later ++ f ∷ [])) (λ k has. elim has [
-                  | inl shown ↦ inl ((any-push (ShowsNeeded asked core k) later f).1 (inl shown))
-                  | inr still ↦ inr ((any-push (LeavesOpen asked core k) later f).1 (inl still))
-                ]) done at.have_marks)
-                (elim (mark g lines marks x searching.at.log.variables) [
-                  | inl shown ↦ inl ((any-push (ShowsNeeded asked core one) later f).1 (inr shown))
-                  | inr still ↦ inr ((any-push (LeavesOpen asked core one) later f).1 (inr still))
-                ]);
-            so_far = λ question numbers has selects within. elim (x.asks question has) [
-              | inl before ↦ elim (at.so_far question numbers before selects within) [
-                | inl all ↦ inl all
-                | inr any ↦ inr ((any-push (λ k. AreAllBut core k numbers) done one).1 (inl any))
-              ]
-              | inr same ↦ inr ((any-push (λ k. AreAllBut core k numbers) done one).1
-                  (inr (subst (AreAllBut core one) (sym (same-numbers asked others numbers question upto others-are same selects)) but)))
-            ];
-          });
+          holds = (
+            later ++ f ∷ [],
+            record {
+              are_last = subst (λ (fs : List Finding). AreLast asked fs core (later ++ f ∷ [])) (sym x.finds)
+                  (last-more asked (findings lines) core later f at.are_last not);
+              refuted = at.refuted;
+              have_marks = All-push (IsMarkedIn asked core (later ++ f ∷ [])) done one
+                  (All-weaker (IsMarkedIn asked core later) (IsMarkedIn asked core (later ++ f ∷ [])) (λ k has. elim has [
+                    | inl shown ↦ inl ((any-push (ShowsNeeded asked core k) later f).1 (inl shown))
+                    | inr still ↦ inr ((any-push (LeavesOpen asked core k) later f).1 (inl still))
+                  ]) done at.have_marks)
+                  (elim (mark g lines marks x searching.at.log.variables) [
+                    | inl shown ↦ inl ((any-push (ShowsNeeded asked core one) later f).1 (inr shown))
+                    | inr still ↦ inr ((any-push (LeavesOpen asked core one) later f).1 (inr still))
+                  ]);
+              so_far = λ question numbers has selects within. elim (x.asks question has) [
+                | inl before ↦ elim (at.so_far question numbers before selects within) [
+                  | inl all ↦ inl all
+                  | inr any ↦ inr ((any-push (λ k. AreAllBut core k numbers) done one).1 (inl any))
+                ]
+                | inr same ↦ inr ((any-push (λ k. AreAllBut core k numbers) done one).1
+                    (inr (subst (AreAllBut core one) (sym (same-numbers asked others numbers question upto others-are same selects)) but)))
+              ];
+            },
+          );
         }
 
     pub less-undecided : NoteMore explain_noting old new a b n m (question_of asked (others_of core one)) answers.Undecided

@@ -130,8 +130,7 @@ module _ (r : PackageList) (number limit : ℕ) (limits : Limits) (set : ClauseL
         → ExplainAnswers r number limit limits name old new (Ok explained)
     answers-whole notes explained tells x =
         let done = x.3 in
-        let back : number ≡ number + 1 - 1 = omega arith in
-        (
+        let back : number ≡ number + 1 - 1 = omega arith in (
           x.0,
           x.1,
           (

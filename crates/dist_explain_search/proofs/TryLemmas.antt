@@ -87,8 +87,10 @@ opened core done given other one b iff same also is =
 pub closed : (core done given other : List ℕ) (one : ℕ) (b : Bool) → IsTrue b ↔ (Contains given one × (¬ Contains other one)) → given ≡ core → other ≡ done
     → b ≡ false → ¬ (Contains core one × (¬ Contains done one))
 closed core done given other one b iff same also is both =
-    true≢false (sym (iff.1 (subst (λ (ns : List ℕ). Contains ns one) (sym same) both.0,
-    λ there. both.1 (subst (λ (ns : List ℕ). Contains ns one) also there))) ∙ is)
+    true≢false (sym (iff.1 (
+      subst (λ (ns : List ℕ). Contains ns one) (sym same) both.0,
+      λ there. both.1 (subst (λ (ns : List ℕ). Contains ns one) also there),
+    )) ∙ is)
 
 module _ (asked other : Asked) (core given : List ℕ) (same : other ≡ asked) (is : given ≡ core) (old new : DeskView) (a b : AskerView) (n m : NotesView) where
   pub shrink-goes : (done fewer : List ℕ) → Goes other (Marks other given done) (Marks other fewer []) old new a b n m

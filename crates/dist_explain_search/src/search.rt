@@ -112,9 +112,9 @@ impl<'a> ExplainSearch<'a> {
         requires one { Contains core.now one }
         ensures ok { (done : List ℕ) → ¬ Contains done one → IfOk result (λ found. MatchOption found
             (Goes self.old.asked (Marks self.old.asked core.now done) (Marks self.old.asked core.now (done ++ one ∷ []))
-                (D.view desk.old) (D.view desk.new) inquirer.old inquirer.new self.old.notes self.new.notes)
+            (D.view desk.old) (D.view desk.new) inquirer.old inquirer.new self.old.notes self.new.notes)
             (λ fewer. Goes self.old.asked (Marks self.old.asked core.now done) (Marks self.old.asked fewer.items [])
-                (D.view desk.old) (D.view desk.new) inquirer.old inquirer.new self.old.notes self.new.notes)) }
+            (D.view desk.old) (D.view desk.new) inquirer.old inquirer.new self.old.notes self.new.notes)) }
         ensures err { (done : List ℕ) → ¬ Contains done one
             → IfErr result (GoesNot self.old.asked (Marks self.old.asked core.now done) (D.view desk.old) (D.view desk.new) inquirer.old self.old.notes) }
         ensures fewer { IfOk result (λ found. IfSome found (λ fewer. IsSmaller self.old.asked (others_of core.now one) fewer.items)) }
