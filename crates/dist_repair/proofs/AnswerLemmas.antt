@@ -36,7 +36,7 @@ module _ (s : SpaceView) (asked : Asked) (found : List Finding) where
     | inr at ↦ omega (arith, at.1, at.2)
   ]
 
-  fewest : (all : List (List ℕ)) (members other : List ℕ) → IsFirstLeast s all members → Contains all other → moved_in s members ≤ moved_in s other
+  pub fewest : (all : List (List ℕ)) (members other : List ℕ) → IsFirstLeast s all members → Contains all other → moved_in s members ≤ moved_in s other
   fewest all members other first there =
       elim (Contains-append_cases first.earlier (members ∷ first.later) other (subst (λ xs. Contains xs other) first.stands there)) [
         | inl before ↦
@@ -77,11 +77,11 @@ module _ (s : SpaceView) (asked : Asked) (found : List Finding) where
     ]
   ]
 
-  end-past : (n : NotesView) → AreNotesOf s asked found n → n.lower ≡ asked.most + 1 → is_at_end n ≡ true
+  pub end-past : (n : NotesView) → AreNotesOf s asked found n → n.lower ≡ asked.most + 1 → is_at_end n ≡ true
   end-past n are past = or_left (nat_lt n.words.most n.lower) (get_or n.left n.lower false)
       (lt-ltb n.words.most n.lower (let most = are.words.most_is in omega (arith, past, most)))
 
-  end-left : (n : NotesView) → AreNotesOf s asked found n → IsLeftAt s asked found n.lower → is_at_end n ≡ true
+  pub end-left : (n : NotesView) → AreNotesOf s asked found n → IsLeftAt s asked found n.lower → is_at_end n ≡ true
   end-left n are left = or_right (nat_lt n.words.most n.lower) (get_or n.left n.lower false) ((are.left n.lower left.0).1 left.1)
 
   -- ---- the answer of notes

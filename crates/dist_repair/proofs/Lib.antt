@@ -12,6 +12,7 @@ pub mod AnswerLemmas
 pub mod InputsLemmas
 pub mod HardLemmas
 pub mod SoundLemmas
+pub mod NextLemmas
 pub mod AcceptedLemmas
 pub mod VerdictLemmas
 pub mod OneAnswerLemmas

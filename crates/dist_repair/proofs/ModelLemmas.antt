@@ -87,6 +87,19 @@ module _ (s : SpaceView) (space : IsSpace s) (clauses : List (List Literal)) (mo
       let counts = all-right True (each_below n (class_clauses s t)) (each_below n (λ x. each_below (most + 1) (count_clauses t x))) model in
       all-below True (most + 1) (count_clauses t c) (all-below True n (λ x. each_below (most + 1) (count_clauses t x)) counts c short) j within
 
+  -- where no more than a number are said to have moved, no more have
+  fewer : (within : ℕ) → within ≤ most → (values : List Bool) (last m : ℕ) → n ≡ last + 1 → IsModel (value_of values) (counter_clauses s t)
+      → value_of values (more t last within) ≡ false → m ≤ count (λ c. value_of values (moved t c)) n → m ≤ within
+  fewer within few values last m is_last model kept low = elim (cases_lt within m) [
+    | inr most_m ↦ most_m
+    | inl less ↦
+        let next : n ≡ suc last = omega (arith, is_last) in
+        let counts : m ≤ count (λ c. value_of values (moved t c)) (suc last) =
+        subst (λ (k : ℕ). m ≤ count (λ c. value_of values (moved t c)) k) next low in
+        let on = counted t (value_of values) (counts-of values model) last within (omega (arith, is_last)) few (omega (arith, less, counts)) in
+        absurd (false≢true (sym kept ∙ on))
+  ]
+
   from-model : (number : ℕ) (p : Package) (within : ℕ) → slice_get s.repository.packages number ≡ Some p → within ≤ most
       → HasCountedModel s clauses most number within → IsPossibleWithin s p within
   unfolding at_test
@@ -108,20 +121,19 @@ module _ (s : SpaceView) (space : IsSpace s) (clauses : List (List Literal)) (mo
       let size = all.size in (
         all.numbers,
         tells values number p all.numbers space_model is has.holds at,
-        fewer values has.last (length all.numbers) has.is_last counter_model has.kept (omega (arith, wider, size)),
+        fewer within few values has.last (length all.numbers) has.is_last counter_model has.kept (omega (arith, wider, size)),
       )
-    where
-      fewer : (values : List Bool) (last m : ℕ) → n ≡ last + 1 → IsModel (value_of values) (counter_clauses s t)
-          → value_of values (more t last within) ≡ false → m ≤ count (λ c. value_of values (moved t c)) n → m ≤ within
-      fewer values last m is_last model kept low = elim (cases_lt within m) [
-        | inr most_m ↦ most_m
-        | inl less ↦
-            let next : n ≡ suc last = omega (arith, is_last) in
-            let counts : m ≤ count (λ c. value_of values (moved t c)) (suc last) =
-            subst (λ (k : ℕ). m ≤ count (λ c. value_of values (moved t c)) k) next low in
-            let on = counted t (value_of values) (counts-of values model) last within (omega (arith, is_last)) few (omega (arith, less, counts)) in
-            absurd (false≢true (sym kept ∙ on))
-      ]
+
+  -- the clusters that are at a class are no more
+  pub at-most : (values : List Bool) (numbers : List ℕ) (last within : ℕ) → n ≡ last + 1 → within ≤ most
+      → IsModel (value_of values) (counted_clauses s clauses most) → value_of values (more t last within) ≡ false → AreAtClass s values numbers
+      → length numbers ≤ within
+  at-most values numbers last within is_last few model kept at =
+      let counter_model = all-right (MakesTrue (value_of values)) clauses (counter_clauses s t) model in
+      let size = count-numbers numbers n at.rising (λ c there. ((at.exact c).0 there).0) in
+      let wider = count-wider (λ c. answer (there-decided numbers c)) (λ c. value_of values (moved t c)) n
+      (λ c short on. class-moved values counter_model c short ((at.exact c).0 (answer-from (there-decided numbers c) on)).1) in
+      fewer within few values last (length numbers) is_last counter_model kept (omega (arith, size, wider))
 
   -- ---- to a model
 

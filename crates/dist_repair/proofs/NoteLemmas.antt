@@ -3,7 +3,7 @@ use Rattle.std.proofs.Common.{◌≡◌, ◌≢◌, ◌↔◌, ◌⊎◌, inl, i
 use Rattle.std.proofs.Common.{length, get_or, refl, sym, ap, ap₂, subst, ◌∙◌, arith, append_assoc}
 use Rattle.std.specs.Prelude.{All, Contains, nat_lt}
 use Rattle.std.proofs.Math.ListN.{length-set, set}
-use Rattle.std.proofs.lemmas.Bool.{and_from, and_left, and_right, cases_Bool, cases_eq, cases_lt, cond-false, cond-true, false≢true, le-ltb, lt-ltb}
+use Rattle.std.proofs.lemmas.Bool.{and_from, and_left, and_right, cases_Bool, cases_eq, cases_lt, cond-false, cond-true, le-ltb, lt-ltb}
 use Rattle.std.proofs.lemmas.Bool.{ltb-false, ltb-true, true≢false}
 use Rattle.std.proofs.lemmas.Grind.{flat_map-append}
 use Rattle.std.proofs.lemmas.List.{append-nil, get_or-set_other, get_or-set_same}
@@ -19,6 +19,7 @@ use Rattle.dist_repair.specs.Answered.{Asked, AsksAlone, AsksAt, IsLeft, IsLower
 use Rattle.dist_repair.specs.Answered.{values_in}
 use Rattle.dist_repair.specs.NotesPrivate.{AreNotesOf, AreWordsOf, IsAlone, IsAt, NotesLeft, NotesRefuted, NotesView, WordsView, is_fewer, noted_installed}
 use Rattle.dist_repair.specs.NotesPrivate.{raised}
+use Rattle.dist_repair.specs.QuestionLaws.{not-both, one-number}
 
 -- ---- questions that are closed one way: refuted, or left undecided
 
@@ -74,24 +75,6 @@ module _ (As : List Word → Finding) (one : (question other : List Word) → As
 module _ (s : SpaceView) (asked : Asked) where
   -- ---- which question it is
 
-  abbrev second_word : List Word → Word
-  second_word question = get_or question 1 (no 0)
-
-  abbrev first_word : List Word → Word
-  first_word question = get_or question 0 (no 0)
-
-  one-number : (i j : ℕ) (question : List Word) → AsksAt s asked i question → AsksAt s asked j question → i ≡ j
-  one-number i j question (inl first) (inl second) =
-      let same : beyond s asked i ≡ beyond s asked j = ap (λ (q : List Word). (second_word q).0) (sym first ∙ second) in omega (arith, same)
-  one-number i j question (inl first) (inr second) = absurd (true≢false (ap (λ (q : List Word). (first_word q).1) (sym first ∙ second)))
-  one-number i j question (inr first) (inl second) = absurd (false≢true (ap (λ (q : List Word). (first_word q).1) (sym first ∙ second)))
-  one-number i j question (inr first) (inr second) =
-      let same : beyond s asked i ≡ beyond s asked j = ap (λ (q : List Word). (first_word q).0) (sym first ∙ second) in omega (arith, same)
-
-  not-both : (j : ℕ) (question : List Word) → AsksAlone s asked question → ¬ AsksAt s asked j question
-  not-both j question alone (inl at) = let size = ap (λ (q : List Word). length q) (sym alone ∙ at) in omega (arith, size)
-  not-both j question alone (inr at) = let size = ap (λ (q : List Word). length q) (sym alone ∙ at) in omega (arith, size)
-
   at-word : (w : WordsView) → AreWordsOf s asked w → (j : ℕ) → w.first + j ≡ beyond s asked j
   at-word w are j = let first = are.first_is in omega (arith, first)
 
@@ -102,7 +85,7 @@ module _ (s : SpaceView) (asked : Asked) where
   asks-alone w are question is = is ∙ sym (ap (λ (v : ℕ). yes v ∷ []) are.own_is)
 
   -- the two forms of a question at j
-  front-same : (w : WordsView) → AreWordsOf s asked w → (j : ℕ)
+  pub front-same : (w : WordsView) → AreWordsOf s asked w → (j : ℕ)
       → (yes w.own ∷ no (w.first + j) ∷ []) ≡ (yes (own s asked) ∷ no (beyond s asked j) ∷ [])
   front-same w are j = ap₂ (λ (v u : ℕ). yes v ∷ no u ∷ []) are.own_is (at-word w are j)
 
@@ -131,7 +114,7 @@ module _ (s : SpaceView) (asked : Asked) where
     greatest = λ j upto is. low.greatest j upto (back j upto is);
   }
 
-  lower-raised : (found : List Finding) (question : List Word) (l j : ℕ) → j ≤ asked.most → AsksAt s asked j question
+  pub lower-raised : (found : List Finding) (question : List Word) (l j : ℕ) → j ≤ asked.most → AsksAt s asked j question
       → IsLower s asked found l → IsLower s asked (found ++ Refuted question ∷ []) (raised l j)
   lower-raised found question l j upto asks low = elim (cases_lt j l) [
     | inl less ↦ subst (IsLower s asked (found ++ Refuted question ∷ [])) (sym (cond-true (nat_lt j l) l (j + 1) (lt-ltb j l less))) (record {
@@ -154,9 +137,9 @@ module _ (s : SpaceView) (asked : Asked) where
   ]
     where
       this : (i : ℕ) (other : List Word) → AsksAt s asked i other → Refuted question ≡ Refuted other → i ≡ j
-      this i other at is = let same : other ≡ question = cc in one-number i j question (subst (AsksAt s asked i) same at) asks
+      this i other at is = let same : other ≡ question = cc in one-number s asked i j question (subst (AsksAt s asked i) same at) asks
 
-  installed-push : (found : List Finding) (f : Finding) → installed s asked (found ++ f ∷ []) ≡ installed s asked found ++ installed_in s asked f
+  pub installed-push : (found : List Finding) (f : Finding) → installed s asked (found ++ f ∷ []) ≡ installed s asked found ++ installed_in s asked f
   installed-push found f = flat_map-append (installed_in s asked) found (f ∷ [])
       ∙ ap (λ (xs : List (List ℕ)). installed s asked found ++ xs) (append-nil (installed_in s asked f))
 
@@ -183,7 +166,7 @@ module _ (s : SpaceView) (asked : Asked) where
       → (b ≡ true) ↔ IsRefuted Asks found → (b ≡ true) ↔ IsRefuted Asks (found ++ f ∷ [])
   refuted-stays found f none Asks b = still-mark Refuted one-refuted Asks found b f none
 
-  lower-stays : (found : List Finding) (f : Finding) → ((question : List Word) → f ≢ Refuted question) → (l : ℕ) → IsLower s asked found l
+  pub lower-stays : (found : List Finding) (f : Finding) → ((question : List Word) → f ≢ Refuted question) → (l : ℕ) → IsLower s asked found l
       → IsLower s asked (found ++ f ∷ []) l
   lower-stays found f none l = lower-same found f l (λ j upto. still-closed Refuted one-refuted (AsksAt s asked j) found f none)
 
@@ -196,7 +179,7 @@ module _ (s : SpaceView) (asked : Asked) where
         outdated = ((λ is. new-closed Refuted one-refuted (AsksAlone s asked) found question asks), λ is. refl);
         alone_left = left-stays found (Refuted question) (λ q is. cc) (AsksAlone s asked) n.alone_left are.alone_left;
         lower = lower-same found (Refuted question) n.lower
-            (λ j upto. old-closed Refuted one-refuted (AsksAt s asked j) found question (not-both j question asks)) are.lower;
+            (λ j upto. old-closed Refuted one-refuted (AsksAt s asked j) found question (not-both s asked j question asks)) are.lower;
         left_count = are.left_count;
         left = λ j upto. left-stays found (Refuted question) (λ q is. cc) (AsksAt s asked j) (get_or n.left j false) (are.left j upto);
         upper = upper-same found (Refuted question) n.upper refl are.upper;
@@ -237,7 +220,7 @@ module _ (s : SpaceView) (asked : Asked) where
         alone_left = ((λ is. new-closed LeftUndecided one-left (AsksAlone s asked) found question asks), λ is. refl);
         lower = lower-stays found (LeftUndecided question) (λ q is. cc) n.lower are.lower;
         left_count = are.left_count;
-        left = λ j upto. old-mark LeftUndecided one-left (AsksAt s asked j) found (get_or n.left j false) question (not-both j question asks)
+        left = λ j upto. old-mark LeftUndecided one-left (AsksAt s asked j) found (get_or n.left j false) question (not-both s asked j question asks)
             (are.left j upto);
         upper = upper-same found (LeftUndecided question) n.upper refl are.upper;
       })
@@ -259,7 +242,7 @@ module _ (s : SpaceView) (asked : Asked) where
             λ left. ap (λ (k : ℕ). get_or (set n.left j true) k false) same ∙ get_or-set_same n.left j true false short,
           )
           | inr differ ↦ old-mark LeftUndecided one-left (AsksAt s asked i) found (get_or (set n.left j true) i false) question
-              (λ other_one. differ (one-number i j question other_one asks.1))
+              (λ other_one. differ (one-number s asked i j question other_one asks.1))
               (subst (λ (b : Bool). (b ≡ true) ↔ IsLeft (AsksAt s asked i) found) (sym (get_or-set_other n.left j i true false differ)) (are.left i upto))
         ];
         upper = upper-same found (LeftUndecided question) n.upper refl are.upper;

@@ -1,7 +1,8 @@
 -- A text has one answer.
-use Rattle.std.proofs.Common.{◌≡◌, inl, inr, ℕ, ◌≤◌, List, length, Result, Ok, Err, refl, sym, ap, ap₂, subst, ◌∙◌, arith}
+use Rattle.std.proofs.Common.{◌≡◌, inl, inr, ℕ, ◌≤◌, List, length, Result, Ok, Err, IfErr, IfOk, refl, sym, ap, ap₂, subst, ◌∙◌, arith}
 use Rattle.std.proofs.lemmas.List.{take_all}
-use Rattle.dist_clause.specs.ClauseList.{literal_count}
+use Rattle.dist_base.specs.Answers.{IsExactly}
+use Rattle.dist_clause.specs.ClauseList.{ClauseList, literal_count}
 use Rattle.dist_clause.specs.Formula.{Literal}
 use Rattle.dist_outside.specs.declared.limits.Limits.{Limits}
 use Rattle.dist_outside.specs.declared.trouble.What.{What}
@@ -12,12 +13,14 @@ use Rattle.dist_cert.specs.declared.faults.CertFault.{CertFault}
 use Rattle.dist_cert.specs.declared.faults.ReadCertError.TheVariants.{Bad, Work}
 use Rattle.dist_cert.specs.ClearFormsLaws.{FormsAreClear}
 use Rattle.dist_judge.specs.AnswerLaws as answers
+use Rattle.dist_judge.specs.Causes.{IsLarge}
 use Rattle.dist_space.specs.Space.{SpaceView}
 use Rattle.dist_space_clauses.specs.SpaceClauses.{AreSpaceClauses}
 use Rattle.dist_findings.specs.AnswerFiles.{Inputs, files_of}
 use Rattle.dist_findings.specs.Findings.{findings}
 use Rattle.dist_repair.specs.Answered.{Answers}
 use Rattle.dist_repair.specs.Counters.{PassesCounted, counted_clauses, counted_variables, counter_of}
+use Rattle.dist_repair.specs.InputsPrivate.{AreInputsWithin, inputs_of}
 use Rattle.dist_repair.specs.RepairFiles.{AreCountedInputs, AreWithin, IsBasisOf, PassesWith, asked_by, most_of, repair_files}
 use Rattle.dist_repair.specs.Verdicts.{IsHeaderOf, IsOfText, RepairAnswers}
 use Rattle.dist_repair.specs.declared.TheConstants.{MAX_MOST}
@@ -63,13 +66,16 @@ module _ (one : ClausesAreOne) (s : SpaceView) where
       let more = passes.1 in omega (arith, more, literals, count)
   passes-none limits most basis clauses other within counted variables passes = passes
 
+  kept-with : (limits : Limits) (most : ℕ) (basis : Inputs) (what : What) → AreCountedInputs s most basis → AreWithin limits basis
+      → ¬ PassesWith s most limits what
+  kept-with limits most basis what inputs within passes =
+      let same = one s passes.clauses inputs.clauses passes.are_clauses inputs.are_clauses in
+      passes-none limits most basis passes.clauses what within
+      (inputs.counted ∙ ap (λ (cs : List (List Literal)). counted_clauses s cs most) same) inputs.variables passes.passes
+
   kept : (limits : Limits) (numbers : List ℕ) (basis : Inputs) (what : What) → IsBasisOf s numbers basis → AreWithin limits basis
       → ¬ ((most_of numbers ≤ MAX_MOST) × PassesWith s (most_of numbers) limits what)
-  kept limits numbers basis what (inl first) within passes =
-      let inputs = first.1 in
-      let same = one s passes.1.clauses inputs.clauses passes.1.are_clauses inputs.are_clauses in
-      passes-none limits (most_of numbers) basis passes.1.clauses what within
-      (inputs.counted ∙ ap (λ (cs : List (List Literal)). counted_clauses s cs (most_of numbers)) same) inputs.variables passes.1.passes
+  kept limits numbers basis what (inl first) within passes = kept-with limits (most_of numbers) basis what first.1 within passes.1
   kept limits numbers basis what (inr first) within passes = let few = passes.0 in omega (arith, first.0, few)
 
   -- only one number is passed first
@@ -89,12 +95,37 @@ module _ (one : ClausesAreOne) (s : SpaceView) where
   one-passed limits most clauses what.Literals second x y = absurd y
   one-passed limits most clauses first second x y = absurd x
 
+  one-with : (limits : Limits) (most : ℕ) (first second : What) → PassesWith s most limits first → PassesWith s most limits second → second ≡ first
+  one-with limits most first second x y =
+      let same = one s x.clauses y.clauses x.are_clauses y.are_clauses in
+      one-passed limits most x.clauses first second x.passes
+      (subst (λ (cs : List (List Literal)). PassesCounted limits s most cs second) same y.passes)
+
   one-number : (limits : Limits) (numbers : List ℕ) (first second : What) → (most_of numbers ≤ MAX_MOST) × PassesWith s (most_of numbers) limits first
       → (most_of numbers ≤ MAX_MOST) × PassesWith s (most_of numbers) limits second → second ≡ first
-  one-number limits numbers first second x y =
-      let same = one s x.1.clauses y.1.clauses x.1.are_clauses y.1.are_clauses in
-      one-passed limits (most_of numbers) x.1.clauses first second x.1.passes
-      (subst (λ (cs : List (List Literal)). PassesCounted limits s (most_of numbers) cs second) same y.1.passes)
+  one-number limits numbers first second x y = one-with limits (most_of numbers) first second x.1 y.1
+
+  one-what : (first second : What) → work.TooLarge first ≡ work.TooLarge second → first ≡ second
+  one-what first second same = cc
+
+  abbrev failed : WorkError → Result ClauseList WorkError
+  failed error = Err error
+
+  one-error : (first second : WorkError) → failed first ≡ failed second → first ≡ second
+  one-error first second same = cc
+
+  -- the number that is passed first is told of the clauses, but for want of memory
+  pub exact-inputs : (limits : Limits) (most : ℕ) (result : Result ClauseList WorkError) → IfOk result (AreInputsWithin limits s most)
+      → IfErr result (IsLarge (PassesWith s most limits)) → (what : What)
+      → IsExactly work.NoMemory result (work.TooLarge what) (PassesWith s most limits what)
+  exact-inputs limits most (Ok set) ok err what some =
+      ((λ is. cc), λ passes. absurd (kept-with limits most (inputs_of set) what ok.counted ok.within passes))
+  exact-inputs limits most (Err (work.TooLarge told)) ok err what some = (
+    (λ is. subst (PassesWith s most limits) (one-what told what (one-error (work.TooLarge told) (work.TooLarge what) is)) err),
+    λ passes. ap (λ (w : What). Err (work.TooLarge w)) (one-with limits most what told passes err),
+  )
+  exact-inputs limits most (Err work.NoMemory) ok err what some = absurd (some refl)
+  exact-inputs limits most (Err error) ok err what some = absurd err
 
   known : FormsAreClear → (limits : Limits) → answers.AreKnown (files_of (repair_files s)) limits
   known forms limits = record {

@@ -3,7 +3,7 @@ use Rattle.std.proofs.Common.{◌≡◌, ◌↔◌, inl, inr, ℕ, ◌+◌, ◌-
 use Rattle.std.proofs.Common.{length, get_or, refl, sym, ap, subst, ◌∙◌, arith, slice_get}
 use Rattle.std.specs.Prelude.{All, Contains}
 use Rattle.std.specs.List.{range_with_len}
-use Rattle.std.proofs.lemmas.Bool.{cases_Bool, cond-false, cond-true, false≢true, true≢false}
+use Rattle.std.proofs.lemmas.Bool.{cases_Bool, cases_lt, cond-false, cond-true, false≢true, true≢false}
 use Rattle.std.proofs.lemmas.List.Elements.{All-cons, All-contains, All-nil, Contains-append_cases, Contains-append_right, filter_agree}
 use Rattle.std.proofs.lemmas.Option.{slice_get_within}
 use Rattle.dist_base.specs.ListLaws.{all-contained}
@@ -27,7 +27,7 @@ use Rattle.dist_findings.specs.SoundLaws.{IsSound}
 use Rattle.dist_findings.specs.declared.finding.Finding.{Finding}
 use Rattle.dist_findings.specs.declared.finding.Finding.TheVariants.{Refuted, LeftUndecided, Installed}
 use Rattle.dist_repair.specs.Answered.{Answers, Asked, AsksAlone, AsksAt, IsLeft, IsLeftAt, IsLower, IsRefuted, IsUpper, beyond, clusters_under, installed}
-use Rattle.dist_repair.specs.Answered.{installed_in, is_at_class, own, values_in}
+use Rattle.dist_repair.specs.Answered.{installed_in, is_at_class, moved_in, own, values_in}
 use Rattle.dist_repair.specs.Counters.{AreAtClass, CountedModelsTell, ModelsTellMoves, counted_clauses, counted_variables, counter_clauses, counter_of, more}
 use Rattle.dist_repair.specs.Means.{IsBound, IsPlan, Says}
 use Rattle.dist_repair.specs.Repair.{IsPossible}
@@ -36,7 +36,7 @@ use Rattle.dist_repair.specs.declared.repair.Repair.{Repair}
 use Rattle.dist_repair.specs.declared.repair.Repair.TheVariants as repair
 use Rattle.dist_repair.proofs.BelowLemmas.{all-left}
 use Rattle.dist_repair.proofs.HardLemmas.{cone-bound, counted-over, more-range}
-use Rattle.dist_repair.proofs.ModelLemmas.{any-model}
+use Rattle.dist_repair.proofs.ModelLemmas.{any-model, at-most}
 use Rattle.dist_repair.proofs.OverLemmas as range
 use Rattle.dist_repair.proofs.RangeLemmas.{passing-exact, passing-rise, same-any, some-below}
 
@@ -174,6 +174,36 @@ module _ (s : SpaceView) (space : IsSpace s) where
         (lower-bound lower low, upper-plan upper.0 upper.1 up, λ sure. absurd (true≢false sure))
     answers-say (repair.AtLeast lower false None) (alive, low, up, ends) = absurd ends
     answers-say (repair.AtLeast lower false (Some upper)) (alive, low, up, ends) = (lower-bound lower low, upper-plan upper.0 upper.1 up, λ sure. refl)
+
+    -- ---- the bounds
+
+    pub bounds-order : (lower : ℕ) (upper : ℕ × List Bool) → IsLower s asked found lower → IsUpper s asked (installed s asked found) (Some upper)
+        → lower ≤ upper.0
+    bounds-order lower upper low up = elim (cases_lt upper.0 lower) [
+      | inl less ↦ absurd (lower-bound lower low upper.0 less (upper-plan upper.0 upper.1 up).possible)
+      | inr more_of ↦ more_of
+    ]
+
+    -- an installation in which no more than j of all clusters have moved
+    pub moved-most : (members : List ℕ) (j : ℕ) → Contains found (Installed members) → j ≤ asked.most
+        → is_among members (beyond s asked j) ≡ false → moved_in s members ≤ j
+    moved-most members j there upto kept =
+        let total = counted_variables (counter_of s asked.most) in
+        let values : List Bool = truth_of total members in
+        let has = has-cluster s space.frame asked.number (slice_get_within s.repository.packages asked.number p is) in
+        let short = has.within in
+        let last : length s.clusters.members ≡ length s.clusters.members - 1 + 1 = omega (arith, short) in
+        let model : IsModel (is_among members) (counted_clauses s clauses asked.most) =
+        All-contains (IsSound (counted_clauses s clauses asked.most) limit) found (Installed members) sound there in
+        let same : (v : ℕ) → 1 ≤ v → v ≤ total → is_among members v ≡ value_of values v = λ v from to. sym (value-among total members v from to) in
+        let whole = alike (is_among members) (value_of values) total same (counted_clauses s clauses asked.most)
+        (counted-over s space clauses asked.most over) model in
+        let place = more-range (counter_of s asked.most) (length s.clusters.members - 1) j (omega (arith, short)) upto in
+        let off : value_of values (beyond s asked j) ≡ false = sym (same (beyond s asked j) place.0 place.1) ∙ kept in
+        let few = at-most s space clauses asked.most tell tells values (clusters_under s (value_of values)) (length s.clusters.members - 1) j last upto
+        whole off (clusters-at values) in
+        let size = ap (λ (cs : List ℕ). length cs) (same-clusters total members (omega arith)) in
+        omega (arith, few, size)
 
     -- ---- what is left undecided
 

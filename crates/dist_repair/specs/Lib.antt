@@ -8,3 +8,5 @@ pub mod RepairExamples
 pub mod CountedPrivate
 pub mod InputsPrivate
 pub mod NotesPrivate
+pub mod Searched
+pub mod QuestionLaws

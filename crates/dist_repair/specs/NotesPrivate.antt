@@ -1,4 +1,5 @@
--- Serves private contracts: what is noted of the findings of a repair's file, and what it answers.
+-- What is noted of the findings of a repair's file, and what it answers. It serves private contracts, and those by
+-- which a search asks its questions.
 use Rattle.std.specs.Prelude.{◌≡◌, ◌↔◌, ◌==◌, ◌||◌, ◌&&◌, ◌⊎◌, ℕ, ◌+◌, ◌≤◌, Bool, true, false, List, [], ◌∷◌, length}
 use Rattle.std.specs.Prelude.{Option, Some, None, if◌then◌else◌, nat_le, nat_lt, slice_index_or, slice_set}
 use Rattle.dist_cert.specs.ClaimRules.{no, yes}

@@ -26,10 +26,15 @@ pub record IsHeaderOf (numbers : List ℕ) (h : RepairHeader) : Type 0 where
   pub number : h.package ≡ (asked_by numbers).number
   pub most : h.most ≡ (asked_by numbers).most
 
+-- The text is accepted with this header and this answer: its lines have no fault and keep the limits, and the answer is
+-- what they find.
+abbrev pub IsRepair : SpaceView → Limits → List ℕ → RepairHeader → Repair → Type 0
+IsRepair s limits text h repair = (numbers : List ℕ) × IsHeaderOf numbers h
+    × IsAnswered (repair_files s) limits text numbers (λ found. Answers s (asked_by numbers) found repair)
+
 -- When each answer is given. A fault of the desk and want of memory may come in place of any.
 abbrev pub RepairAnswers : SpaceView → Limits → List ℕ → Result RepairVerdict WorkError → Type 0
-RepairAnswers s limits text (Ok (Accepted h repair)) = (numbers : List ℕ) × IsHeaderOf numbers h
-    × IsAnswered (repair_files s) limits text numbers (λ found. Answers s (asked_by numbers) found repair)
+RepairAnswers s limits text (Ok (Accepted h repair)) = IsRepair s limits text h repair
 RepairAnswers s limits text (Ok (Refused fault)) = StopsWith (files_of (repair_files s)) limits text (Bad fault)
 RepairAnswers s limits text (Err error) = StopsWith (files_of (repair_files s)) limits text (Work error)
 

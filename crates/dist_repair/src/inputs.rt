@@ -1,6 +1,9 @@
 //! What files are judged by, and whether the numbers of a first line are right.
 ghost use Rattle.std.specs.Prelude.{◌≡◌, ◌↔◌, ◌≤◌, IfErr, IfOk, IsTrue, slice_index_or};
+ghost use Rattle.dist_base.specs.Answers.{IsExactly};
 ghost use Rattle.dist_judge.specs.Causes.{IsLarge};
+ghost use Rattle.dist_outside.specs.declared.trouble.What.{What};
+ghost use Rattle.dist_outside.specs.declared.trouble.WorkError.TheVariants.{NoMemory, TooLarge};
 ghost use Rattle.dist_subject.specs.Limited.{AreStated};
 ghost use Rattle.dist_repair.specs.InputsPrivate.{AreInputsWithin, inputs_of};
 ghost use Rattle.dist_repair.specs.RepairFiles.{Fits, PassesWith, most_of};
@@ -12,7 +15,9 @@ use crate::counter::Counter;
 use dist_clause::ClauseSet;
 use dist_outside::{Limits, What, WorkError};
 use dist_space::Space;
-use dist_space_clauses::{clauses_of, space_clauses_are_there, space_clauses_go_on};
+use dist_space_clauses::{
+    clauses_of, space_clauses_are_one, space_clauses_are_there, space_clauses_go_on,
+};
 use dist_subject::too_large;
 use std::alloc::Global;
 
@@ -49,6 +54,24 @@ pub(crate) fn counted_inputs(
         Ok(clauses) => with_counter(alloc, space, &clauses, most, limits),
         Err(error) => Err(too_large(error)),
     }
+}
+
+/// The same, where a number is told exactly if it is the one that is passed first, but for want of memory.
+pub fn repair_inputs(
+    alloc: Global,
+    space: &Space,
+    most: u32,
+    limits: &Limits,
+) -> Result<ClauseSet, WorkError>
+    requires most { most ≤ MAX_MOST }
+    requires limits { AreStated limits.now }
+    ensures ok { IfOk result (AreInputsWithin limits.now space.now most) }
+    ensures err { IfErr result (IsLarge (PassesWith space.now most limits.now)) }
+    ensures exact { (what : What) → IsExactly NoMemory result (TooLarge what) (PassesWith space.now most limits.now what) }
+{
+    // What this call tells is that a space has one list of clauses.
+    space_clauses_are_one();
+    counted_inputs(alloc, space, most, limits)
 }
 
 /// Whether the numbers of a first line are right, where files with them are judged by these clauses.

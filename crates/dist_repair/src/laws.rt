@@ -9,6 +9,7 @@ ghost use Rattle.dist_findings.specs.Answers.{IsAnswered};
 ghost use Rattle.dist_repair.specs.Answered.{Answers};
 ghost use Rattle.dist_repair.specs.Counters.{CountedModelsTell, ModelsTellMoves};
 ghost use Rattle.dist_repair.specs.RepairFiles.{asked_by, repair_files};
+ghost use Rattle.dist_repair.specs.Searched.{LastDecides, NextDecides, NotesAnswer};
 ghost use Rattle.dist_repair.specs.Verdicts.{AcceptedSays, IsHeaderOf, IsOfText, RepairAnswers};
 ghost use Rattle.dist_repair.specs.declared.repair.Repair.{Repair};
 ghost use Rattle.dist_repair.specs.declared.verdict.RepairHeader.{RepairHeader};
@@ -38,6 +39,16 @@ pub fn accepted_repairs_hold()
     forms_are_clear();
     lines_keep_models();
     new_lines_are_few();
+    models_tell_of_moves();
+    counters_count_moves();
+}
+
+/// What questions that are asked at the lower bound, one after another, find of an answer.
+pub fn questions_decide()
+    ensures next { (s : SpaceView) (clauses : List (List Literal)) → IsSpace s → AreSpaceClauses s clauses → NextDecides s clauses }
+    ensures last { (s : SpaceView) → LastDecides s }
+    ensures answer { (s : SpaceView) → NotesAnswer s }
+{
     models_tell_of_moves();
     counters_count_moves();
 }

@@ -18,9 +18,15 @@ mod words;
 
 pub use checking::check_repair;
 pub use counted::with_counter;
-pub use laws::{accepted_repairs_hold, counters_count_moves, repairs_have_one_answer};
+pub use inputs::repair_inputs;
+pub use laws::{
+    accepted_repairs_hold, counters_count_moves, questions_decide, repairs_have_one_answer,
+};
+pub use notes::Notes;
 pub use repair::Repair;
+pub use repairing::{Repairing, words_of};
 pub use verdict::{RepairHeader, RepairVerdict};
+pub use words::Words;
 
 /// The most clusters that a counter counts to.
 pub const MAX_MOST: u32 = 64;

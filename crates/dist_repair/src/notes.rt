@@ -21,7 +21,7 @@ use std::marker::Model;
 
 /// What is noted of the findings of a file.
 #[derive(Debug, Drop)]
-pub(crate) struct Notes {
+pub struct Notes {
     words: Words,
     /// Whether the question of the package alone is refuted.
     outdated: bool,
@@ -178,7 +178,7 @@ impl Notes {
     }
 
     /// The answer, where there is one.
-    pub(crate) fn answer(self) -> Repair
+    pub fn answer(self) -> Repair
         ensures { result ≡ answer_of self }
     {
         let Notes {

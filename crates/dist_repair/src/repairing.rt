@@ -17,13 +17,13 @@ use std::alloc::{AllocError, Global};
 
 /// Files of repairs over a space.
 #[derive(Drop)]
-pub(crate) struct Repairing<'a> {
-    pub(crate) alloc: Global,
-    pub(crate) space: &'a Space,
+pub struct Repairing<'a> {
+    pub alloc: Global,
+    pub space: &'a Space,
 }
 
 /// The variables of the questions that a file may ask, where its numbers are right.
-fn words_of(space: &Space, numbers: &[u32]) -> Words
+pub fn words_of(space: &Space, numbers: &[u32]) -> Words
     requires { HasRightNumbers (repair_files space.now) numbers.now }
     ensures words { AreWordsOf space.now (asked_by numbers.now) result }
     ensures most { result.most ≤ MAX_MOST }

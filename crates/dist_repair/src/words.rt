@@ -1,13 +1,16 @@
 //! The questions that a file may ask.
-ghost use Rattle.std.specs.Prelude.{◌≡◌, ◌≢◌, ◌↔◌, ◌+◌, ◌≤◌, ℕ, IsTrue, MatchOption};
+ghost use Rattle.std.specs.Prelude.{◌≡◌, ◌≢◌, ◌↔◌, ◌+◌, ◌≤◌, ◌∷◌, ℕ, [], IsTrue, MatchOption};
 ghost use Rattle.dist_cert.specs.ClaimRules.{no, yes};
-ghost use Rattle.dist_repair.specs.NotesPrivate.{IsAlone, IsAt, IsAtNone};
+ghost use Rattle.dist_space.specs.Space.{SpaceView};
+ghost use Rattle.dist_repair.specs.Answered.{Asked, AsksAlone, AsksAt};
+ghost use Rattle.dist_repair.specs.NotesPrivate.{AreWordsOf, IsAlone, IsAt, IsAtNone};
+ghost use Rattle.dist_repair.specs.declared.TheConstants.{MAX_MOST};
 
 use std::marker::Model;
 
 /// The variables of the questions on a package.
 #[derive(Debug, Drop)]
-pub(crate) struct Words {
+pub struct Words {
     /// The package's own.
     pub(crate) own: u32,
     /// That more than none of all clusters have moved. Behind it stand those of greater numbers, up to the most.
@@ -28,6 +31,31 @@ impl Model for Words {
 }
 
 impl Words {
+    /// The most that is counted to.
+    pub fn most(&self) -> u32
+        ensures value { result ≡ self.now.most }
+        ensures stated { result ≤ MAX_MOST }
+    {
+        self.most
+    }
+
+    /// The question of the package alone.
+    pub fn alone(&self) -> [(u32, bool); 1]
+        ensures value { result ≡ yes self.now.own ∷ [] }
+        ensures asks { (s : SpaceView) (asked : Asked) → AreWordsOf s asked self.now → AsksAlone s asked result }
+    {
+        [(self.own, true)]
+    }
+
+    /// The question at a number: the package, where not more than so many of all clusters have moved.
+    pub fn at(&self, number: u32) -> [(u32, bool); 2]
+        requires { number ≤ self.now.most }
+        ensures value { result ≡ yes self.now.own ∷ no (self.now.first + number) ∷ [] }
+        ensures asks { (s : SpaceView) (asked : Asked) → AreWordsOf s asked self.now → AsksAt s asked number result }
+    {
+        [(self.own, true), (self.first + number, false)]
+    }
+
     /// Whether a question is that of the package alone.
     pub(crate) fn is_alone(&self, question: &[(u32, bool)]) -> bool
         ensures { IsTrue result ↔ IsAlone self.now question.now }

@@ -14,3 +14,4 @@ pub mod PlaceLemmas
 pub mod ReportLaws
 pub mod BrokenLemmas
 pub mod ExplainedLemmas
+pub mod RepairTextLemmas

@@ -17,3 +17,5 @@ pub mod StrongExamples
 pub mod OutdatedExamples
 pub mod ChallengedExamples
 pub mod ExplainedText
+pub mod RepairText
+pub mod RepairTextExamples

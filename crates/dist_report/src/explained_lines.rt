@@ -11,7 +11,11 @@ use dist_repo::Repository;
 use std::alloc::{AllocError, Global};
 
 /// Adds the package of a number.
-fn write_label_at(out: &mut Vec<u8>, repo: &Repository, number: u32) -> Result<(), AllocError>
+pub(crate) fn write_label_at(
+    out: &mut Vec<u8>,
+    repo: &Repository,
+    number: u32,
+) -> Result<(), AllocError>
     ensures { OnOk result (out.new.items ≡ out.old.items ++ label_at repo.now.packages number) }
 {
     if number < repo.len() {

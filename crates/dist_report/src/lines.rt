@@ -1,10 +1,13 @@
 //! The lines that reports are made of: a key with a string, a key with a list, a package of a list, a list of packages.
 ghost use Rattle.std.specs.Prelude.{◌≡◌, ◌++◌, OnErr, OnOk};
 ghost use Rattle.dist_base.specs.Front.{IsFrontOf};
+ghost use Rattle.dist_cluster.specs.Partition.{least};
 ghost use Rattle.dist_report.specs.Lines.{key_line, listed, string_line};
-ghost use Rattle.dist_report.specs.PackageText.{label, package_line};
+ghost use Rattle.dist_report.specs.PackageText.{cluster_text, label, package_line};
 
+use crate::explained_lines::write_label_at;
 use dist_repo::{Package, Repository};
+use dist_space::Space;
 use std::alloc::AllocError;
 
 /// Adds a string in double quotes, behind what stands before it, and the line's end.
@@ -50,6 +53,28 @@ pub fn print_label(package: &Package, out: &mut Vec<u8>) -> Result<(), AllocErro
         out.truncate(length);
     }
     printed
+}
+
+/// The member of a cluster that stands first.
+fn least_of(members: &[u32]) -> u32
+    ensures { result ≡ least members.now }
+{
+    match members.first() {
+        Some(member) => *member,
+        None => 0,
+    }
+}
+
+/// Adds a cluster by its member that stands first, or nothing where no cluster has the number.
+pub fn print_cluster(space: &Space, cluster: u32, out: &mut Vec<u8>) -> Result<(), AllocError>
+    ensures { OnOk result (out.new.items ≡ out.old.items ++ cluster_text space.now cluster) }
+{
+    let clusters = space.clusters();
+    if cluster < clusters.len() {
+        write_label_at(out, space.repo(), least_of(clusters.members(cluster)))
+    } else {
+        Ok(())
+    }
 }
 
 /// Adds a package as a string, behind what stands before it, and the line's end.
