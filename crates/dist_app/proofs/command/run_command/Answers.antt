@@ -40,6 +40,12 @@ returns-in-CheckExplain-clause-stops g c =
     desk (g.D.Desk.view c.run_check_explain.new.desk) why (λ ending decides. decides) (λ apart. apart) c.run_check_explain.ensures.only_reads)
     c.run_check_explain.ensures.due)
 
+pub returns-in-CheckRepair-clause-answers : goal.returns-in-CheckRepair-clause-answers
+returns-in-CheckRepair-clause-answers g c =
+    rw c.in-CheckRepair.is (ok_more c.run_check_repair.result _ _ (λ answer. read_answers
+    (CheckRepair c.in-CheckRepair.files.packages.now c.in-CheckRepair.files.cert.now) c.args.limits.now (g.D.Desk.view c.args.desk.now)
+    _ answer.status answer.text.items c.run_check_repair.ensures.only_reads) c.run_check_repair.ensures.answers)
+
 pub returns-in-CheckRepair-clause-stops : goal.returns-in-CheckRepair-clause-stops
 returns-in-CheckRepair-clause-stops g c =
     let desk : DeskView = g.D.Desk.view c.args.desk.now in

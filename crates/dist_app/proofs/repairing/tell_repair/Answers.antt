@@ -1,7 +1,7 @@
 use Rattle.std.proofs.Common.{subst}
 use Rattle.std.proofs.Common.{ℕ, ◌<◌, length}
 use Rattle.std.proofs.lemmas.Option.{slice_get_within}
-use Rattle.dist_app.proofs.Repairing.{has_values}
+use Rattle.dist_app.proofs.RepairLemmas.{has_values}
 use Rattle.dist_app.proofs.repairing.tell_repair.Goals as goal
 
 pub repair_text-requires-clause-package : goal.repair_text-requires-clause-package

@@ -1,5 +1,5 @@
 -- What is told of a repair.
-use Rattle.std.proofs.Common.{ℕ, arith, Some, None}
+use Rattle.std.proofs.Common.{arith, Some, None}
 use Rattle.dist_space.specs.Space.{SpaceView}
 use Rattle.dist_repair.specs.Verdicts.{AcceptedSays}
 use Rattle.dist_repair.specs.declared.repair.Repair.{Repair}
