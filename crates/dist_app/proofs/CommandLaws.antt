@@ -8,7 +8,7 @@ use Rattle.dist_package.specs.declared.error.PackagesError.{PackagesError}
 use Rattle.dist_package.specs.declared.error.PackagesError.TheVariants as packages_error
 use Rattle.dist_repo.specs.PackageList.{PackageList}
 use Rattle.dist_repo.specs.declared.package.Package.{Package}
-use Rattle.dist_words.specs.CommandLine.{CommandLine, Health, Classes, Sweep, Check, CheckExplain, Try, Steps, Follow}
+use Rattle.dist_words.specs.CommandLine.{CommandLine, Health, Classes, Sweep, Check, CheckExplain, CheckRepair, Try, Steps, Follow}
 use Rattle.dist_words.specs.Table.{command_of}
 use Rattle.dist_outside.specs.declared.trouble.What.{What}
 use Rattle.dist_repo.specs.Order.{IsInOrder, IsLatestOf}
@@ -21,6 +21,7 @@ use Rattle.dist_journal.specs.declared.fault.FollowError.{FollowError}
 use Rattle.dist_journal.specs.declared.fault.FollowError.TheVariants as follow_error
 use Rattle.dist_app.specs.Check.{CertificateAnswers, CertificateStage, Reports}
 use Rattle.dist_app.specs.CheckExplain.{ExplanationReads, ExplanationStage, TellsExplained}
+use Rattle.dist_app.specs.CheckRepair.{RepairReads, RepairStage, TellsRepair}
 use Rattle.dist_app.specs.Classes.{TellsClasses}
 use Rattle.dist_app.specs.Command.{CommandDecides, CommandRefuses, CommandIsGivenUp}
 use Rattle.dist_app.specs.Follow.{IsEndOfJournal, JournalStage, TellsFollowed}
@@ -37,7 +38,8 @@ use Rattle.dist_app.specs.Try.{ArchiveStage}
 use Rattle.dist_generate.specs.Generator.{generated}
 use Rattle.dist_app.specs.declared.refusal.Refusal.TheVariants as refusal
 use Rattle.dist_app.proofs.Judgements.{check_determined}
-use Rattle.dist_app.proofs.OneVerdict.{HaveOneAnswer, HaveOneExplanation, certificates_once, explanations_once}
+use Rattle.dist_app.proofs.OneVerdict.{HaveOneAnswer, HaveOneExplanation, HaveOneRepair, certificates_once, explanations_once}
+use Rattle.dist_app.proofs.OneVerdict.{repairs_once}
 use Rattle.dist_app.proofs.StageLaws.{apart, nothing_excludes, same_end as same_ending, same_value, then_excludes}
 
 same_text : (a b : List ℕ) (whole : Option (List ℕ)) → whole ≡ Some a → whole ≡ Some b → b ≡ a
@@ -80,12 +82,13 @@ abbrev pub HaveOneEnd : Type 0
 HaveOneEnd = (s : SpaceView) (limit : ℕ) (journal : List ℕ) (old : List Package) → IsSpace s → HasOneEnd s limit journal old
 
 -- each Packages text has one repository or one error, each LIST one set or one first bad line, each CERT one answer, as a certificate and as a file
--- of an explanation, and of what a sweep is judged by one number is passed first; each file has one space at a mode, and each journal one end
+-- of an explanation or of a repair, and of what a sweep is judged by one number is passed first; each file has one space at a mode, and each journal one end
 pub record AreExact : Type 0 where
   pub packages : (text : List ℕ) (limit : ℕ) → HasOneAnswer text limit
   pub lists : (packages : List Package) (text : List ℕ) → ListHasOneAnswer packages text
   pub certificates : HaveOneAnswer
   pub explanations : HaveOneExplanation
+  pub repairs : HaveOneRepair
   pub numbers : HaveOneNumber
   pub spaces : HaveOneSpace
   pub journals : HaveOneEnd
@@ -213,6 +216,10 @@ explanation_determined : HaveOneExplanation → (files : Files) (limits : Limits
 explanation_determined one files limits cert r order =
     check_determined (ExplanationReads r limits) (explanations_once one r limits order) files cert
 
+pub repair_determined : HaveOneRepair → (files : Files) (limits : Limits) (cert : List ℕ) (s : SpaceView)
+    → IsDetermined (RepairStage (Some files) limits cert s)
+repair_determined one files limits cert s = check_determined (RepairReads s limits) (repairs_once one s limits) files cert
+
 -- ---- commands
 
 command_excludes : AreExact → (line : CommandLine) (files : Files) (limits : Limits)
@@ -237,6 +244,11 @@ command_excludes exact (CheckExplain packages cert) files limits =
     then_excludes (ExplanationStage (Some files) limits cert r) _ _
     (explanation_determined exact.explanations files limits cert r (in_order (Some files) limits packages r goes))
     (λ accepted judged. nothing_excludes (TellsExplained (Some files) r accepted)))
+command_excludes exact (CheckRepair packages cert) files limits =
+    then_excludes (PackagesStage (Some files) limits packages) _ _ (packages_determined exact files limits packages) (λ r goes.
+    then_excludes (SpaceStage (Some files) limits false r) _ _ (space_determined exact.spaces (Some files) limits false r) (λ space made.
+    then_excludes (RepairStage (Some files) limits cert space) _ _ (repair_determined exact.repairs files limits cert space)
+    (λ accepted judged. nothing_excludes (TellsRepair (Some files) space accepted))))
 command_excludes exact (Try size seed) files limits =
     then_excludes (ArchiveStage (Some files) limits size seed) _ _ (archive_determined exact (Some files) limits size seed)
     (λ r goes end ending refuses tries. tries.first end refuses)
@@ -266,6 +278,7 @@ given_up_excludes exact (Sweep kind packages cert essential limit) files limits 
     (inr (given_up.repository, given_up.read, inr (tt, given_up.kept refl, tt)))
 given_up_excludes exact (Check packages cert) files limits end ending refuses given_up = absurd given_up
 given_up_excludes exact (CheckExplain packages cert) files limits end ending refuses given_up = absurd given_up
+given_up_excludes exact (CheckRepair packages cert) files limits end ending refuses given_up = absurd given_up
 given_up_excludes exact (Try size seed) files limits end ending refuses given_up = absurd given_up
 given_up_excludes exact (Steps packages later) files limits end ending refuses given_up = absurd given_up
 given_up_excludes exact (Follow packages cert journal) files limits end ending refuses given_up = absurd given_up

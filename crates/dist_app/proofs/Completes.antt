@@ -28,16 +28,17 @@ use Rattle.dist_subject.specs.Basis.{Basis, IsBasisOf, matter_of}
 use Rattle.dist_sweep.specs.Sweep.{IsFull, OfSweep, header_of}
 use Rattle.dist_trial.specs.Summary.{has_marks}
 use Rattle.dist_trial.specs.Trial.{IsStoppedAt}
-use Rattle.dist_words.specs.CommandLine.{CommandLine, Health, Classes, Sweep, Check, CheckExplain, Try, Steps, Follow}
+use Rattle.dist_words.specs.CommandLine.{CommandLine, Health, Classes, Sweep, Check, CheckExplain, CheckRepair, Try, Steps, Follow}
 use Rattle.dist_words.specs.Table.{command_of}
 use Rattle.dist_app.specs.Check.{CertificateAnswers, CertificateStage, Reports}
 use Rattle.dist_app.specs.CheckExplain.{ExplanationReads, ExplanationStage, TellsExplained}
+use Rattle.dist_app.specs.CheckRepair.{RepairReads, RepairStage, TellsRepair}
 use Rattle.dist_app.specs.CheckedFile.{IsOneAnswer}
 use Rattle.dist_app.specs.Claims.{has_mark, marked_status}
 use Rattle.dist_app.specs.Classes.{TellsClasses}
 use Rattle.dist_app.specs.Command.{CommandDecides, CommandIsGivenUp, IsApart}
 use Rattle.dist_app.specs.Complete.{Completes, IsComplete, IsStatusOfFile, IsStatusOfJournal, IsStatusOfLater, IsStatusOfRefused, IsStatusOfSet}
-use Rattle.dist_app.specs.Complete.{IsUndisturbed, StopsBelowBudget, TrialIsComplete, stop_status, told_claims, told_explained}
+use Rattle.dist_app.specs.Complete.{IsUndisturbed, StopsBelowBudget, TrialIsComplete, stop_status, told_claims, told_explained, told_repair}
 use Rattle.dist_app.specs.Follow.{IsEndOfJournal, JournalStage, JournalStages, TellsFollowed}
 use Rattle.dist_app.specs.Headline.{IsCarriedOut}
 use Rattle.dist_app.specs.Health.{Judges, ListStage, ListStages, Tells}
@@ -58,7 +59,7 @@ use Rattle.dist_app.proofs.CommandLaws.{HaveOneEnd, certificate_determined, pack
 use Rattle.dist_app.proofs.FollowStages.{AfterCertificate}
 use Rattle.dist_app.proofs.Headlines.{of_line}
 use Rattle.dist_app.proofs.Judgements.{comes_to, judged_first}
-use Rattle.dist_app.proofs.OneVerdict.{certificates_once, explanations_once}
+use Rattle.dist_app.proofs.OneVerdict.{certificates_once, explanations_once, repairs_once}
 use Rattle.dist_app.proofs.Refused.{mark_carried_out}
 use Rattle.dist_app.proofs.StageLaws.{then_goes}
 use Rattle.dist_app.proofs.StepsStages.{AreNewestOnce}
@@ -223,6 +224,19 @@ check_explain_ends laws files limits packages cert r ending read decides =
     (packages_determined laws.texts files limits packages)
     r read ending decides)
 
+check_repair_ends : Laws → (files : Files) (limits : Limits) (packages cert : List ℕ) (r : PackageList) (space : SpaceView) (ending : Ending)
+    → PackagesStage (Some files) limits packages (Goes r) → SpaceStage (Some files) limits false r (Goes space)
+    → CommandDecides (CheckRepair packages cert) (Some files) limits ending
+    → IsStatusOfFile (RepairReads space limits) (Some files) cert told_repair ending.status
+check_repair_ends laws files limits packages cert r space ending read made decides =
+    comes_to (RepairReads space limits) (repairs_once laws.texts.repairs space limits) files cert
+    (TellsRepair (Some files) space) told_repair (λ accepted e told. ap (λ (x : Ending). x.status) told.is) ending
+    (then_goes (SpaceStage (Some files) limits false r) (λ s. Then (RepairStage (Some files) limits cert s) (TellsRepair (Some files) s))
+    (space_determined laws.texts.spaces (Some files) limits false r) space made ending
+    (then_goes (PackagesStage (Some files) limits packages)
+    (λ x. Then (SpaceStage (Some files) limits false x) (λ s. Then (RepairStage (Some files) limits cert s) (TellsRepair (Some files) s)))
+    (packages_determined laws.texts files limits packages) r read ending decides))
+
 -- what the newest versions of LATER come to, by those of PACKAGES
 told_later : (files : Option Files) (space : SpaceView) (l : PackageList) (ending : Ending) (tells : TellsLater files space l ending)
     → IsStatusOfLater space.repository tells.later ending.status
@@ -317,6 +331,8 @@ module _ (laws : Laws) (words : List (List ℕ)) (limits : Limits) (files : File
     check = λ packages cert r is read. inr (check_ends laws files limits packages cert r ending read (of (Check packages cert) is));
     check_explain = λ packages cert r is read.
         inr (check_explain_ends laws files limits packages cert r ending read (of (CheckExplain packages cert) is));
+    check_repair = λ packages cert r space is read made.
+        inr (check_repair_ends laws files limits packages cert r space ending read made (of (CheckRepair packages cert) is));
     steps = λ packages later r l newest_later space is read made read_later latest_later.
         inr (steps_end laws files limits packages later r l newest_later space ending read made read_later latest_later (of (Steps packages later) is));
     follow_judges = λ packages cert journal r is read.
@@ -338,6 +354,7 @@ stored_out words limits result files left memory = record {
   sweep = λ kind packages cert essential limit r is read kept. inl memory;
   check = λ packages cert r is read. inl memory;
   check_explain = λ packages cert r is read. inl memory;
+  check_repair = λ packages cert r space is read made. inl memory;
   steps = λ packages later r l newest_later space is read made read_later latest_later. inl memory;
   follow_judges = λ packages cert journal r is read. inl memory;
   follow = λ packages cert journal r accepted space text is read judged made whole. inl memory;

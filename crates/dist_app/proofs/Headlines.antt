@@ -11,14 +11,18 @@ use Rattle.dist_cert.specs.declared.records.Claim.{Claim}
 use Rattle.dist_cert.specs.declared.records.Header.{Header}
 use Rattle.dist_explain.specs.declared.explained.Explained.{Explained}
 use Rattle.dist_explain.specs.declared.verdict.ExplainHeader.{ExplainHeader}
-use Rattle.dist_words.specs.CommandLine.{CommandLine, Sweep, Check, CheckExplain, Steps, Follow}
+use Rattle.dist_repair.specs.declared.repair.Repair.{Repair}
+use Rattle.dist_repair.specs.declared.verdict.RepairHeader.{RepairHeader}
+use Rattle.dist_words.specs.CommandLine.{CommandLine, Sweep, Check, CheckExplain, CheckRepair, Steps, Follow}
 use Rattle.dist_words.specs.Table.{command_of}
 use Rattle.dist_app.specs.CarriedPrivate.{IsAnswered}
 use Rattle.dist_app.specs.Check.{CertificateAnswers, CertificateStage, CheckStages, Reports}
 use Rattle.dist_app.specs.CheckExplain.{CheckExplainStages, ExplanationReads, ExplanationStage, TellsExplained}
+use Rattle.dist_app.specs.CheckRepair.{CheckRepairStages, RepairReads, RepairStage, TellsRepair}
 use Rattle.dist_app.specs.Command.{CommandDecides}
 use Rattle.dist_app.specs.Follow.{FollowStages, TellsFollowed}
-use Rattle.dist_app.specs.Headline.{CheckExplainIsProved, CheckIsProved, IsCarriedOut, ProvesCheck, ProvesExplained, ProvesFollow, ProvesMisfit}
+use Rattle.dist_app.specs.Headline.{CheckRepairIsProved, ProvesCheckRepair}
+use Rattle.dist_app.specs.Headline.{CheckExplainIsProved, CheckIsProved, IsCarriedOut, ProvesCheck, ProvesCheckExplain, ProvesFollow, ProvesMisfit}
 use Rattle.dist_app.specs.Headline.{AreCompared, FollowIsProved, ProvesPlan, ProvesSweep, StepsAreProved, SweepIsProved}
 use Rattle.dist_app.specs.PackagesStage.{PackagesStage}
 use Rattle.dist_app.specs.Refusal.{status_of}
@@ -111,7 +115,7 @@ module _ (limits : Limits) (packages cert : List ℕ) (result : Status) (desk de
     (status_is : result ≡ ending.status) (carried : IsCarriedOut ending.status) (files : desk'.files ≡ ending.files) (printed : Grew ending.out out out') where
   told_proves : (r : PackageList) (accepted : ExplainHeader × Explained) → PackagesStage desk.files limits packages (Goes r)
       → ExplanationStage desk.files limits cert r (Goes accepted) → TellsExplained desk.files r accepted ending
-      → ProvesExplained limits packages cert result desk desk' out out'
+      → ProvesCheckExplain limits packages cert result desk desk' out out'
   told_proves r accepted goes judged told = record {
     repository = r;
     read = goes;
@@ -128,11 +132,42 @@ module _ (limits : Limits) (packages cert : List ℕ) (result : Status) (desk de
   }
 
   pub check_explain_proves : CheckExplainStages desk.files limits packages cert (TellsExplained desk.files) ending
-      → ProvesExplained limits packages cert result desk desk' out out'
+      → ProvesCheckExplain limits packages cert result desk desk' out out'
   check_explain_proves (inl ends) = absurd (refusal_not_carried_out desk.files ending (packages_refuses desk.files limits packages ending ends) carried)
   check_explain_proves (inr (r, goes, inl ends)) =
       absurd (refusal_not_carried_out desk.files ending (check_refuses (ExplanationReads r limits) desk.files cert ending ends) carried)
   check_explain_proves (inr (r, goes, inr (accepted, judged, told))) = told_proves r accepted goes judged told
+
+-- ---- `check-repair`
+
+module _ (limits : Limits) (packages cert : List ℕ) (result : Status) (desk desk' : DeskView) (out out' : SinkView) (ending : Ending)
+    (status_is : result ≡ ending.status) (carried : IsCarriedOut ending.status) (files : desk'.files ≡ ending.files) (printed : Grew ending.out out out') where
+  checked_proves : (r : PackageList) (space : SpaceView) (accepted : RepairHeader × Repair) → PackagesStage desk.files limits packages (Goes r)
+      → IsSpaceOfFile false r space → RepairStage desk.files limits cert space (Goes accepted) → TellsRepair desk.files space accepted ending
+      → ProvesCheckRepair limits packages cert result desk desk' out out'
+  checked_proves r space accepted goes made judged told = record {
+    repository = r;
+    read = goes;
+    space = space;
+    is_space = made;
+    header = accepted.0;
+    repair = accepted.1;
+    present = judged.present;
+    accepted = judged.answers;
+    files = files ∙ ap (λ (e : Ending). e.files) told.is;
+    says = told.says;
+    printed = subst (λ (e : Ending). Grew e.out out out') told.is printed;
+    status = status_is ∙ ap (λ (e : Ending). e.status) told.is;
+  }
+
+  pub check_repair_proves : CheckRepairStages desk.files limits packages cert (TellsRepair desk.files) ending
+      → ProvesCheckRepair limits packages cert result desk desk' out out'
+  check_repair_proves (inl ends) = absurd (refusal_not_carried_out desk.files ending (packages_refuses desk.files limits packages ending ends) carried)
+  check_repair_proves (inr (r, goes, inl ends)) =
+      absurd (refusal_not_carried_out desk.files ending (space_refuses desk.files limits false r ending ends) carried)
+  check_repair_proves (inr (r, goes, inr (space, made, inl ends))) =
+      absurd (refusal_not_carried_out desk.files ending (check_refuses (RepairReads space limits) desk.files cert ending ends) carried)
+  check_repair_proves (inr (r, goes, inr (space, made, inr (accepted, judged, told)))) = checked_proves r space accepted goes made.0 judged told
 
 -- ---- `steps`
 
@@ -266,6 +301,16 @@ check_explain_proved words limits result desk desk' out out' a packages cert is 
 pub check_explain_refused : (words : List (List ℕ)) (limits : Limits) (r : Refusal) (desk desk' : DeskView) (out out' : SinkView)
     → CheckExplainIsProved words limits (status_of r) desk desk' out out'
 check_explain_refused words limits r desk desk' out out' packages cert is carried = absurd (not_carried_out r carried)
+
+pub check_repair_proved : (words : List (List ℕ)) (limits : Limits) (result : Status) (desk desk' : DeskView) (out out' : SinkView)
+    → IsAnswered words limits desk desk' out out' result → CheckRepairIsProved words limits result desk desk' out out'
+check_repair_proved words limits result desk desk' out out' a packages cert is carried =
+    check_repair_proves limits packages cert result desk desk' out out' a.ending a.status_is (subst IsCarriedOut a.status_is carried) a.files a.printed
+    (of_line words desk.files limits (CheckRepair packages cert) a.ending is a.decides)
+
+pub check_repair_refused : (words : List (List ℕ)) (limits : Limits) (r : Refusal) (desk desk' : DeskView) (out out' : SinkView)
+    → CheckRepairIsProved words limits (status_of r) desk desk' out out'
+check_repair_refused words limits r desk desk' out out' packages cert is carried = absurd (not_carried_out r carried)
 
 -- a refusal proves nothing of either
 pub sweep_refused : (words : List (List ℕ)) (limits : Limits) (r : Refusal) (desk desk' : DeskView) (out out' : SinkView)

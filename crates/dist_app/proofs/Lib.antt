@@ -15,6 +15,7 @@ pub mod LaterLemmas
 pub mod NewestLemmas
 pub mod OneVerdict
 pub mod Refused
+pub mod RepairLemmas
 pub mod Runs
 pub mod StageLaws
 pub mod StepsStages

@@ -17,8 +17,15 @@ use Rattle.dist_explain.specs.declared.explained.Explained.{Explained}
 use Rattle.dist_explain.specs.declared.verdict.ExplainHeader.{ExplainHeader}
 use Rattle.dist_explain.specs.declared.verdict.ExplainVerdict.{ExplainVerdict}
 use Rattle.dist_explain.specs.declared.verdict.ExplainVerdict.TheVariants as explain
+use Rattle.dist_repair.specs.Verdicts.{IsOfText as IsOfRepair, RepairAnswers}
+use Rattle.dist_repair.specs.declared.repair.Repair.{Repair}
+use Rattle.dist_repair.specs.declared.verdict.RepairHeader.{RepairHeader}
+use Rattle.dist_repair.specs.declared.verdict.RepairVerdict.{RepairVerdict}
+use Rattle.dist_repair.specs.declared.verdict.RepairVerdict.TheVariants as repair
+use Rattle.dist_space.specs.Space.{SpaceView}
 use Rattle.dist_app.specs.Check.{CertificateAnswers}
 use Rattle.dist_app.specs.CheckExplain.{ExplanationReads}
+use Rattle.dist_app.specs.CheckRepair.{RepairReads}
 use Rattle.dist_app.specs.CheckedFile.{IsOfText}
 use Rattle.dist_app.proofs.Judgements.{AnswersOnce}
 
@@ -108,3 +115,50 @@ explanations_once one r limits order text result other first second of_first of_
     ∙ ap explanation_read (one r limits text (explained_by result) (explained_by other) order (explains_by r limits text result first)
     (explains_by r limits text other second) (of_explanation_by result of_first) (of_explanation_by other of_second))
     ∙ explained_back result
+
+-- ---- repairs
+
+-- each text of a repair's file has one answer
+abbrev pub HaveOneRepair : Type 0
+HaveOneRepair = (s : SpaceView) (limits : Limits) (text : List ℕ) (result other : Result RepairVerdict WorkError)
+    → RepairAnswers s limits text result → RepairAnswers s limits text other → IsOfRepair result → IsOfRepair other
+    → other ≡ result
+
+abbrev Repairing : Type 0
+Repairing = Result (RepairHeader × Repair) ReadCertError
+
+abbrev repaired_by : Repairing → Result RepairVerdict WorkError
+repaired_by (Ok accepted) = Ok (repair.Accepted accepted.0 accepted.1)
+repaired_by (Err (Bad fault)) = Ok (repair.Refused fault)
+repaired_by (Err (Work error)) = Err error
+
+abbrev repair_read : Result RepairVerdict WorkError → Repairing
+repair_read (Ok (repair.Accepted h made)) = Ok (h, made)
+repair_read (Ok (repair.Refused fault)) = Err (Bad fault)
+repair_read (Err error) = Err (Work error)
+
+repaired_back : (x : Repairing) → repair_read (repaired_by x) ≡ x
+repaired_back (Ok accepted) = refl
+repaired_back (Err (Bad fault)) = refl
+repaired_back (Err (Work error)) = refl
+
+repairs_by : (s : SpaceView) (limits : Limits) (text : List ℕ) (x : Repairing) → RepairReads s limits text x
+    → RepairAnswers s limits text (repaired_by x)
+repairs_by s limits text (Ok accepted) h = h
+repairs_by s limits text (Err (Bad fault)) h = h
+repairs_by s limits text (Err (Work error)) h = h
+
+of_repair_by : (x : Repairing) → IsOfText x → IsOfRepair (repaired_by x)
+of_repair_by (Ok accepted) of = tt
+of_repair_by (Err (Bad fault)) of = tt
+of_repair_by (Err (Work work.ReadFault)) of = of
+of_repair_by (Err (Work work.WriteFault)) of = tt
+of_repair_by (Err (Work (work.TooLarge what))) of = tt
+of_repair_by (Err (Work work.NoMemory)) of = of
+
+pub repairs_once : HaveOneRepair → (s : SpaceView) (limits : Limits) → AnswersOnce (RepairReads s limits)
+repairs_once one s limits text result other first second of_first of_second =
+    sym (repaired_back other)
+    ∙ ap repair_read (one s limits text (repaired_by result) (repaired_by other) (repairs_by s limits text result first)
+    (repairs_by s limits text other second) (of_repair_by result of_first) (of_repair_by other of_second))
+    ∙ repaired_back result

@@ -16,14 +16,16 @@ use Rattle.dist_journal.specs.declared.fault.FollowError.{FollowError}
 use Rattle.dist_journal.specs.declared.fault.FollowError.TheVariants as follow_error
 use Rattle.dist_history.specs.FollowText.{follow_text}
 use Rattle.dist_history.specs.PlanText.{misfit_text, plan_text}
+use Rattle.dist_repair.specs.Verdicts.{is_undecided}
 use Rattle.dist_cert.specs.declared.faults.ReadCertError.{ReadCertError}
 use Rattle.dist_cert.specs.declared.faults.ReadCertError.TheVariants.{Bad, Work}
 use Rattle.dist_cert.specs.declared.records.CertKind.{CertKind}
 use Rattle.dist_cert.specs.declared.records.CertKind.TheVariants as kinds
 use Rattle.dist_trial.specs.Summary.{has_marks}
-use Rattle.dist_words.specs.CommandLine.{CommandLine, Health, Classes, Sweep, Check, CheckExplain, Try, Steps, Follow}
+use Rattle.dist_words.specs.CommandLine.{CommandLine, Health, Classes, Sweep, Check, CheckExplain, CheckRepair, Try, Steps, Follow}
 use Rattle.dist_app.specs.Check.{CertificateAnswers}
 use Rattle.dist_app.specs.CheckExplain.{ExplanationReads, leaves_undecided}
+use Rattle.dist_app.specs.CheckRepair.{RepairReads}
 use Rattle.dist_app.specs.CheckedFile.{CheckStage, IsEndOfError}
 use Rattle.dist_app.specs.Claims.{has_mark, marked_status}
 use Rattle.dist_app.specs.Command.{CommandDecides, CommandRefuses, CommandIsGivenUp}
@@ -172,6 +174,11 @@ command_refuses (Check packages cert) files limits ending (inr (r, goes, inr (ac
 command_refuses (CheckExplain packages cert) files limits ending (inl p) = packages_refuses files limits packages ending p
 command_refuses (CheckExplain packages cert) files limits ending (inr (r, goes, inl c)) = check_refuses (ExplanationReads r limits) files cert ending c
 command_refuses (CheckExplain packages cert) files limits ending (inr (r, goes, inr (accepted, judged, none))) = absurd none
+command_refuses (CheckRepair packages cert) files limits ending (inl p) = packages_refuses files limits packages ending p
+command_refuses (CheckRepair packages cert) files limits ending (inr (r, goes, inl s)) = space_refuses files limits false r ending s
+command_refuses (CheckRepair packages cert) files limits ending (inr (r, goes, inr (space, made, inl c))) =
+    check_refuses (RepairReads space limits) files cert ending c
+command_refuses (CheckRepair packages cert) files limits ending (inr (r, goes, inr (space, made, inr (accepted, judged, none)))) = absurd none
 command_refuses (Try size seed) files limits ending (inl a) = archive_refuses files limits size seed ending a
 command_refuses (Try size seed) files limits ending (inr (r, goes, c)) = inputs_refuse files limits kinds.Strong false r ending c
 command_refuses (Steps packages later) files limits ending (inl p) = packages_refuses files limits packages ending p
@@ -248,6 +255,13 @@ command_status (CheckExplain packages cert) files limits ending (inr (r, goes, i
     refusal_status files ending (check_refuses (ExplanationReads r limits) files cert ending c)
 command_status (CheckExplain packages cert) files limits ending (inr (r, goes, inr (accepted, judged, told))) =
     subst (λ (e : Ending). IsOfFiles e.status) (sym told.is) (mark_of_files (leaves_undecided accepted.1))
+command_status (CheckRepair packages cert) files limits ending (inl p) = refusal_status files ending (packages_refuses files limits packages ending p)
+command_status (CheckRepair packages cert) files limits ending (inr (r, goes, inl s)) =
+    refusal_status files ending (space_refuses files limits false r ending s)
+command_status (CheckRepair packages cert) files limits ending (inr (r, goes, inr (space, made, inl c))) =
+    refusal_status files ending (check_refuses (RepairReads space limits) files cert ending c)
+command_status (CheckRepair packages cert) files limits ending (inr (r, goes, inr (space, made, inr (accepted, judged, told)))) =
+    subst (λ (e : Ending). IsOfFiles e.status) (sym told.is) (mark_of_files (is_undecided accepted.1))
 command_status (Try size seed) files limits ending (inl a) = refusal_status files ending (archive_refuses files limits size seed ending a)
 command_status (Try size seed) files limits ending (inr (r, goes, tries)) =
     elim tries.comes [
@@ -282,6 +296,7 @@ given_up_status (Classes packages) files limits why ending given_up = absurd giv
 given_up_status (Sweep kind packages cert essential limit) files limits why ending given_up = ap (λ (e : Ending). e.status) given_up.is
 given_up_status (Check packages cert) files limits why ending given_up = absurd given_up
 given_up_status (CheckExplain packages cert) files limits why ending given_up = absurd given_up
+given_up_status (CheckRepair packages cert) files limits why ending given_up = absurd given_up
 given_up_status (Try size seed) files limits why ending given_up = absurd given_up
 given_up_status (Steps packages later) files limits why ending given_up = absurd given_up
 given_up_status (Follow packages cert journal) files limits why ending given_up = absurd given_up

@@ -14,7 +14,7 @@ use Rattle.dist_app.specs.LaterPrivate.{HasNoSpace, HasSome, IsSpaceKept, IsLate
 use Rattle.dist_app.specs.PackagesStage.{PackagesStage}
 use Rattle.dist_app.specs.SpaceStage.{IsSpaceOfFile, SpaceStage}
 use Rattle.dist_app.specs.Stages.{Ending, Ends, Goes, Then, answered, refused}
-use Rattle.dist_app.specs.Steps.{IsNewestIn, SpaceStages, StepsStages, TellsLater}
+use Rattle.dist_app.specs.Steps.{IsNewestIn, SpaceStages, TellsLater}
 use Rattle.dist_app.specs.declared.refusal.Refusal.{Refusal}
 use Rattle.dist_app.specs.declared.status.Status.{Status}
 use Rattle.dist_app.proofs.Due.{due_more, due_later}
@@ -92,40 +92,37 @@ pub later-answers : (files : Option Files) (limits : Limits) (later : List ℕ) 
 later-answers files limits later space newest status text (file, read, latest) told =
     inr (file, read, record { later = newest; is_newest = latest; tells = told files })
 
--- ---- the command
+-- ---- behind the space of PACKAGES
 
-whole : (files : Option Files) (limits : Limits) (packages later : List ℕ) (space : SpaceView) (ending : Ending) → IsSpaceKept files limits packages space
-    → Then (PackagesStage files limits later) (TellsLater files space) ending → StepsStages files limits packages later (TellsLater files) ending
-whole files limits packages later space ending (r, read, made) rest = inr (r, read, inr (space, made, rest))
+-- a chain whose rest is of the files that the desk tells
+module _ (After : Option Files → SpaceView → Ending → Type 0) (limits : Limits) (packages : List ℕ) where
+  abbrev Whole : Option Files → Ending → Type 0
+  Whole files = SpaceStages files limits packages (After files)
 
-module _ (old mid : DeskView) (limits : Limits) (packages later : List ℕ) (space : SpaceView) (reads : OnlyReads old mid)
-    (kept : IsSpaceKept old.files limits packages space) where
-  pub steps-answers : (status : Status) (text : List ℕ)
-      → Then (PackagesStage mid.files limits later) (TellsLater mid.files space) (answered mid.files status text)
-      → StepsStages old.files limits packages later (TellsLater old.files) (answered old.files status text)
-  steps-answers status text rest =
-      whole old.files limits packages later space (answered old.files status text) kept
-      (subst (λ (files : Option Files). Then (PackagesStage files limits later) (TellsLater files space) (answered files status text)) reads.files_stay rest)
+  whole : (files : Option Files) (space : SpaceView) (ending : Ending) → IsSpaceKept files limits packages space → After files space ending
+      → Whole files ending
+  whole files space ending (r, read, made) rest = inr (r, read, inr (space, made, rest))
 
-  pub steps-due : (new : DeskView) (refusal : Refusal) → OnlyReads mid new
-      → IsDue (Then (PackagesStage mid.files limits later) (TellsLater mid.files space)) mid new refusal
-      → IsDue (StepsStages old.files limits packages later (TellsLater old.files)) old new refusal
-  steps-due new refusal after due =
-      let Part : Option Files → Ending → Type 0 = λ files. Then (PackagesStage files limits later) (TellsLater files space) in
-      due_more (Part old.files) (StepsStages old.files limits packages later (TellsLater old.files)) old new refusal
-      (λ ending decided. whole old.files limits packages later space ending kept decided)
-      (due_later (Part old.files) old mid new refusal reads after
-      (subst (λ (files : Option Files). IsDue (Part files) mid new refusal) reads.files_stay due))
+  module _ (old mid : DeskView) (space : SpaceView) (reads : OnlyReads old mid) (kept : IsSpaceKept old.files limits packages space) where
+    pub space-answers : (status : Status) (text : List ℕ) → After mid.files space (answered mid.files status text)
+        → Whole old.files (answered old.files status text)
+    space-answers status text rest =
+        whole old.files space (answered old.files status text) kept
+        (subst (λ (files : Option Files). After files space (answered files status text)) reads.files_stay rest)
 
-no-later : (files : Option Files) (limits : Limits) (packages later : List ℕ) (ending : Ending) → SpaceStages files limits packages (λ space end. ⊥) ending
-    → StepsStages files limits packages later (TellsLater files) ending
-no-later files limits packages later ending (inl ends) = inl ends
-no-later files limits packages later ending (inr (r, read, inl ends)) = inr (r, read, inl ends)
-no-later files limits packages later ending (inr (r, read, inr (space, made, none))) = absurd none
+    pub space-after : (new : DeskView) (refusal : Refusal) → OnlyReads mid new → IsDue (After mid.files space) mid new refusal
+        → IsDue (Whole old.files) old new refusal
+    space-after new refusal after due =
+        due_more (After old.files space) (Whole old.files) old new refusal (λ ending decided. whole old.files space ending kept decided)
+        (due_later (After old.files space) old mid new refusal reads after
+        (subst (λ (files : Option Files). IsDue (After files space) mid new refusal) reads.files_stay due))
 
-pub steps-unread : (old new : DeskView) (limits : Limits) (packages later : List ℕ) (refusal : Refusal)
-    → IsDue (SpaceStages old.files limits packages (λ space ending. ⊥)) old new refusal
-    → IsDue (StepsStages old.files limits packages later (TellsLater old.files)) old new refusal
-steps-unread old new limits packages later refusal due =
-    due_more (SpaceStages old.files limits packages (λ space ending. ⊥)) (StepsStages old.files limits packages later (TellsLater old.files)) old new refusal
-    (no-later old.files limits packages later) due
+  nothing-after : (files : Option Files) (ending : Ending) → SpaceStages files limits packages (λ space end. ⊥) ending → Whole files ending
+  nothing-after files ending (inl ends) = inl ends
+  nothing-after files ending (inr (r, read, inl ends)) = inr (r, read, inl ends)
+  nothing-after files ending (inr (r, read, inr (space, made, none))) = absurd none
+
+  pub space-unread : (old new : DeskView) (refusal : Refusal) → IsDue (SpaceStages old.files limits packages (λ space ending. ⊥)) old new refusal
+      → IsDue (Whole old.files) old new refusal
+  space-unread old new refusal due =
+      due_more (SpaceStages old.files limits packages (λ space ending. ⊥)) (Whole old.files) old new refusal (nothing-after old.files) due

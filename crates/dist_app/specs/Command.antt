@@ -3,9 +3,11 @@ use Rattle.std.specs.Prelude.{false, Option}
 use Rattle.dist_outside.specs.Files.{Files}
 use Rattle.dist_outside.specs.declared.limits.Limits.{Limits}
 use Rattle.dist_cert.specs.declared.records.CertKind.TheVariants.{Strong}
-use Rattle.dist_words.specs.CommandLine.{CommandLine, Health, Classes, Sweep, Check, CheckExplain, Try, Steps, Follow}
+use Rattle.dist_words.specs.CommandLine.{CommandLine, Health, Classes, Sweep, Check, CheckExplain, CheckRepair}
+use Rattle.dist_words.specs.CommandLine.{Try, Steps, Follow}
 use Rattle.dist_app.specs.Check.{CheckStages, Reports}
 use Rattle.dist_app.specs.CheckExplain.{CheckExplainStages, TellsExplained}
+use Rattle.dist_app.specs.CheckRepair.{CheckRepairStages, TellsRepair}
 use Rattle.dist_app.specs.Classes.{ClassesStages, TellsClasses}
 use Rattle.dist_app.specs.Follow.{FollowStages, TellsFollowed}
 use Rattle.dist_app.specs.Health.{HealthStages, Judges}
@@ -24,6 +26,8 @@ CommandDecides (Sweep kind packages cert essential limit) files limits =
 CommandDecides (Check packages cert) files limits = CheckStages files limits packages cert (Reports files)
 CommandDecides (CheckExplain packages cert) files limits =
     CheckExplainStages files limits packages cert (TellsExplained files)
+CommandDecides (CheckRepair packages cert) files limits =
+    CheckRepairStages files limits packages cert (TellsRepair files)
 CommandDecides (Try size seed) files limits = TryStages files limits size seed (Tries files limits size)
 CommandDecides (Steps packages later) files limits = StepsStages files limits packages later (TellsLater files)
 CommandDecides (Follow packages cert journal) files limits =
@@ -41,6 +45,8 @@ CommandRefuses (Check packages cert) files limits =
     CheckStages files limits packages cert (λ repository accepted ending. ⊥)
 CommandRefuses (CheckExplain packages cert) files limits =
     CheckExplainStages files limits packages cert (λ repository accepted ending. ⊥)
+CommandRefuses (CheckRepair packages cert) files limits =
+    CheckRepairStages files limits packages cert (λ space accepted ending. ⊥)
 CommandRefuses (Try size seed) files limits = TryStages files limits size seed
     (λ repository ending. InputsStage files limits Strong false repository (Ends ending))
 CommandRefuses (Steps packages later) files limits = StepsStages files limits packages later (λ space l ending. ⊥)

@@ -25,10 +25,13 @@ use Rattle.dist_explain.specs.declared.explained.Explained.{Explained}
 use Rattle.dist_explain.specs.declared.verdict.ExplainHeader.{ExplainHeader}
 use Rattle.dist_journal.specs.declared.fault.FollowError.{FollowError}
 use Rattle.dist_journal.specs.declared.fault.FollowError.TheVariants as follow_error
-use Rattle.dist_words.specs.CommandLine.{Health, Classes, Sweep, Check, CheckExplain, Try, Steps, Follow}
+use Rattle.dist_repair.specs.declared.repair.Repair.{Repair}
+use Rattle.dist_repair.specs.declared.verdict.RepairHeader.{RepairHeader}
+use Rattle.dist_words.specs.CommandLine.{Health, Classes, Sweep, Check, CheckExplain, CheckRepair, Try, Steps, Follow}
 use Rattle.dist_words.specs.Table.{command_of}
 use Rattle.dist_app.specs.Check.{CertificateAnswers, CertificateStage}
 use Rattle.dist_app.specs.CheckExplain.{ExplanationReads, explained_status}
+use Rattle.dist_app.specs.CheckRepair.{RepairReads, repaired_status}
 use Rattle.dist_app.specs.CheckedFile.{IsOneAnswer}
 use Rattle.dist_app.specs.Claims.{claims_status}
 use Rattle.dist_app.specs.Follow.{IsStoppedFor}
@@ -117,12 +120,15 @@ abbrev pub answer_status : {X : Type 0} → (X → Status) → Result X ReadCert
 answer_status status (Ok x) = status x
 answer_status status (Err error) = error_status error
 
--- the status of what an accepted certificate says, and an accepted file of an explanation
+-- the status of what an accepted certificate says, and an accepted file of an explanation or of a repair
 abbrev pub told_claims : Header × List Claim → Status
 told_claims accepted = claims_status accepted.1
 
 abbrev pub told_explained : ExplainHeader × Explained → Status
 told_explained accepted = explained_status accepted.1
+
+abbrev pub told_repair : RepairHeader × Repair → Status
+told_repair accepted = repaired_status accepted.1
 
 -- The status is that of the file's one answer: it is accepted, or refused, or passes a number.
 abbrev pub IsStatusOfFile : {X : Type 0} → (List ℕ → Result X ReadCertError → Type 0) → Option Files
@@ -139,6 +145,13 @@ abbrev pub CheckExplainIsComplete : List (List ℕ) → Limits → Status → Op
 CheckExplainIsComplete words limits result files = (packages cert : List ℕ) (r : PackageList)
     → command_of words ≡ Some (CheckExplain packages cert) → PackagesStage files limits packages (Goes r)
     → (result ≡ NoMemory) ⊎ IsStatusOfFile (ExplanationReads r limits) files cert told_explained result
+
+-- The space of PACKAGES keeps its number of variables.
+abbrev pub CheckRepairIsComplete : List (List ℕ) → Limits → Status → Option Files → Type 0
+CheckRepairIsComplete words limits result files = (packages cert : List ℕ) (r : PackageList) (space : SpaceView)
+    → command_of words ≡ Some (CheckRepair packages cert) → PackagesStage files limits packages (Goes r)
+    → SpaceStage files limits false r (Goes space)
+    → (result ≡ NoMemory) ⊎ IsStatusOfFile (RepairReads space limits) files cert told_repair result
 
 -- ---- `steps`
 
@@ -202,6 +215,7 @@ pub record Completes (words : List (List ℕ)) (limits : Limits) (result : Statu
     pub sweep : SweepIsComplete words limits result files left
     pub check : CheckIsComplete words limits result files
     pub check_explain : CheckExplainIsComplete words limits result files
+    pub check_repair : CheckRepairIsComplete words limits result files
     pub steps : StepsAreComplete words limits result files
     pub follow_judges : FollowJudges words limits result files
     pub follow : FollowIsComplete words limits result files

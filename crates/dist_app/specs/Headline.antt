@@ -27,15 +27,20 @@ use Rattle.dist_check.specs.Answers.{AcceptedMeans}
 use Rattle.dist_explain.specs.Verdicts.{AcceptedMeans as ExplanationMeans, IsExplanation}
 use Rattle.dist_explain.specs.declared.explained.Explained.{Explained}
 use Rattle.dist_explain.specs.declared.verdict.ExplainHeader.{ExplainHeader}
+use Rattle.dist_repair.specs.Verdicts.{AcceptedSays, IsRepair}
+use Rattle.dist_repair.specs.declared.repair.Repair.{Repair}
+use Rattle.dist_repair.specs.declared.verdict.RepairHeader.{RepairHeader}
 use Rattle.dist_judge.specs.Judging.{OfText}
 use Rattle.dist_check.specs.Means.{Means}
 use Rattle.dist_report.specs.ExplainedText.{IsExplainedText}
+use Rattle.dist_report.specs.RepairText.{repair_text}
 use Rattle.dist_history.specs.PlanText.{misfit_text, plan_text}
 use Rattle.dist_journal.specs.declared.broken_list.Broken.{Broken}
 use Rattle.dist_history.specs.FollowText.{follow_text}
-use Rattle.dist_words.specs.CommandLine.{Sweep, Check, CheckExplain, Steps, Follow}
+use Rattle.dist_words.specs.CommandLine.{Sweep, Check, CheckExplain, CheckRepair, Steps, Follow}
 use Rattle.dist_words.specs.Table.{command_of}
 use Rattle.dist_app.specs.CheckExplain.{explained_status}
+use Rattle.dist_app.specs.CheckRepair.{repaired_status}
 use Rattle.dist_app.specs.Claims.{IsReportOf, claims_status}
 use Rattle.dist_app.specs.Follow.{AreToldBroken, IsFollowedWhole, StaysBroken}
 use Rattle.dist_app.specs.PackagesStage.{PackagesStage}
@@ -89,7 +94,7 @@ pub record ProvesCheck (limits : Limits) (packages cert : List ℕ) (result : St
 -- PACKAGES has a repository, and the file CERT was accepted over all its versions, whoever wrote it, with a header and
 -- an answer. What is answered of the package is true: it is installable; or relations are told, which explain it
 -- together, and each of them without a mark is needed. All files are as before.
-pub record ProvesExplained (limits : Limits) (packages cert : List ℕ) (result : Status) (desk desk' : DeskView)
+pub record ProvesCheckExplain (limits : Limits) (packages cert : List ℕ) (result : Status) (desk desk' : DeskView)
     (out out' : SinkView) : Type 0 where
   pub repository : PackageList
   pub read : PackagesStage desk.files limits packages (Goes repository)
@@ -103,6 +108,23 @@ pub record ProvesExplained (limits : Limits) (packages cert : List ℕ) (result 
   pub is_told : IsExplainedText repository header.«package» explained told
   pub printed : Grew told out out'
   pub status : result ≡ explained_status explained
+
+-- PACKAGES has a repository, and the file CERT was accepted over the space of its newest versions, whoever wrote it,
+-- with a header and an answer. What is answered of the package is true, and was printed. All files are as before.
+pub record ProvesCheckRepair (limits : Limits) (packages cert : List ℕ) (result : Status) (desk desk' : DeskView)
+    (out out' : SinkView) : Type 0 where
+  pub repository : PackageList
+  pub read : PackagesStage desk.files limits packages (Goes repository)
+  pub space : SpaceView
+  pub is_space : IsSpaceOfFile false repository space
+  pub header : RepairHeader
+  pub repair : Repair
+  pub present : IsPresent desk.files cert
+  pub accepted : OfText (file_bytes desk.files cert) (λ text. IsRepair space limits text header repair)
+  pub files : desk'.files ≡ desk.files
+  pub says : AcceptedSays space header repair
+  pub printed : Grew (repair_text space header.«package» repair) out out'
+  pub status : result ≡ repaired_status repair
 
 -- The newest versions of PACKAGES and of LATER, and the space of the first ones.
 pub record AreCompared (limits : Limits) (packages later : List ℕ) (desk : DeskView) : Type 0 where
@@ -180,7 +202,13 @@ CheckIsProved words limits result desk desk' out out' = (packages cert : List �
 abbrev pub CheckExplainIsProved : List (List ℕ) → Limits → Status → DeskView → DeskView → SinkView → SinkView → Type 0
 CheckExplainIsProved words limits result desk desk' out out' = (packages cert : List ℕ)
     → command_of words ≡ Some (CheckExplain packages cert) → IsCarriedOut result
-    → ProvesExplained limits packages cert result desk desk' out out'
+    → ProvesCheckExplain limits packages cert result desk desk' out out'
+
+-- and of one of `check-repair`
+abbrev pub CheckRepairIsProved : List (List ℕ) → Limits → Status → DeskView → DeskView → SinkView → SinkView → Type 0
+CheckRepairIsProved words limits result desk desk' out out' = (packages cert : List ℕ)
+    → command_of words ≡ Some (CheckRepair packages cert) → IsCarriedOut result
+    → ProvesCheckRepair limits packages cert result desk desk' out out'
 
 -- and of one of `steps`: with status 0 a plan, with status 12 a package that keeps LATER from being a future
 abbrev pub StepsAreProved : List (List ℕ) → Limits → Status → DeskView → DeskView → SinkView → SinkView → Type 0

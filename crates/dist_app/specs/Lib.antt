@@ -2,6 +2,7 @@ pub mod CarriedPrivate
 pub mod CauseText
 pub mod Check
 pub mod CheckExplain
+pub mod CheckRepair
 pub mod CheckedFile
 pub mod Claims
 pub mod Classes

@@ -11,6 +11,7 @@ ghost use Rattle.dist_app.specs.Stages.{answered};
 use crate::answer::Answer;
 use crate::check_command::run_check;
 use crate::check_explain_command::run_check_explain;
+use crate::check_repair_command::run_check_repair;
 use crate::classes_command::run_classes;
 use crate::follow_command::run_follow;
 use crate::health_command::run_health;
@@ -45,6 +46,7 @@ pub(crate) fn run_command<D: Desk>(
         Command::Sweep(words) => run_sweep(alloc, desk, words, limits),
         Command::Check(files) => run_check(alloc, desk, files, limits),
         Command::CheckExplain(files) => run_check_explain(alloc, desk, files, limits),
+        Command::CheckRepair(files) => run_check_repair(alloc, desk, files, limits),
         Command::Try(words) => run_try(alloc, words, limits),
         Command::Steps(files) => run_steps(alloc, desk, files, limits),
         Command::Follow(files) => run_follow(alloc, desk, files, limits),

@@ -1,18 +1,22 @@
-//! The stage that makes the space of a Packages file.
+//! The stages that make the newest versions and the space of a Packages file.
 ghost use Rattle.std.specs.Prelude.{◌≡◌, ◌≤◌, IfErr, IfOk, Option, length};
 ghost use Rattle.dist_base.specs.declared.TheConstants.{MAX_VARIABLES};
-ghost use Rattle.dist_outside.specs.Files.{Files};
+ghost use Rattle.dist_outside.specs.DeskView.{OnlyReads};
+ghost use Rattle.dist_outside.specs.Files.{Files, IsNotWriting};
 ghost use Rattle.dist_repo.specs.Order.{IsFlat, IsLatestOf};
 ghost use Rattle.dist_repo.specs.Size.{IsWithinSize};
 ghost use Rattle.dist_space.specs.SpaceOf.{IsSpaceOf};
-ghost use Rattle.dist_app.specs.DuePrivate.{IsPartGivenUp};
-ghost use Rattle.dist_app.specs.LaterPrivate.{HasNoSpace};
+ghost use Rattle.dist_app.specs.DuePrivate.{IsDue, IsPartGivenUp};
+ghost use Rattle.dist_app.specs.LaterPrivate.{HasNoSpace, IsSpaceKept};
+ghost use Rattle.dist_app.specs.PackagesStage.{PackagesStage};
 ghost use Rattle.dist_app.specs.Run.{IsWithinStated};
 ghost use Rattle.dist_app.specs.SpaceStage.{SpaceStage};
 ghost use Rattle.dist_app.specs.Stages.{Ends, Goes};
+ghost use Rattle.dist_app.specs.Steps.{IsNewestIn, SpaceStages};
 
+use crate::files::read_repository;
 use crate::refusal::Refusal;
-use dist_outside::{Limits, What};
+use dist_outside::{Desk, Limits, What};
 use dist_repo::{Repository, latest_is_one};
 use dist_space::{Space, SpaceError, space_of};
 use std::alloc::Global;
@@ -33,7 +37,7 @@ pub(crate) fn newest_of(repository: &Repository) -> Result<Repository, Refusal>
 }
 
 /// The space of packages at a mode, within a number of variables.
-fn space_within(
+pub(crate) fn space_within(
     alloc: Global,
     newest: Repository,
     essential: bool,
@@ -69,6 +73,45 @@ pub(crate) fn space_of_file(
 {
     match newest_of(&repository) {
         Ok(newest) => space_within(alloc, newest, essential, limits.variables),
+        Err(refusal) => Err(refusal),
+    }
+}
+
+/// The space of PACKAGES.
+pub(crate) fn read_space<D: Desk>(
+    alloc: Global,
+    desk: &mut D,
+    packages: &str,
+    limits: &Limits,
+) -> Result<Space, Refusal>
+    requires not_writing { IsNotWriting (D.view desk.old).mode }
+    requires within { IsWithinStated limits.now }
+    ensures goes { IfOk result (IsSpaceKept (D.view desk.old).files limits.now packages.now) }
+    ensures due { IfErr result (IsDue (SpaceStages (D.view desk.old).files limits.now packages.now (λ space ending. ⊥)) (D.view desk.old) (D.view desk.new)) }
+    ensures only_reads { OnlyReads (D.view desk.old) (D.view desk.new) }
+{
+    match read_repository(alloc, desk, packages, limits) {
+        Ok(repository) => space_of_file(alloc, repository, false, limits),
+        Err(refusal) => Err(refusal),
+    }
+}
+
+/// The newest versions of a Packages file.
+pub(crate) fn read_newest<D: Desk>(
+    alloc: Global,
+    desk: &mut D,
+    name: &str,
+    limits: &Limits,
+) -> Result<Repository, Refusal>
+    requires not_writing { IsNotWriting (D.view desk.old).mode }
+    requires within { IsWithinStated limits.now }
+    ensures goes { IfOk result (IsNewestIn (D.view desk.old).files limits.now name.now) }
+    ensures due { IfErr result (IsDue (λ ending. PackagesStage (D.view desk.old).files limits.now name.now (Ends ending)) (D.view desk.old) (D.view desk.new)) }
+    ensures within_size { IfOk result (λ newest. IsWithinSize newest) }
+    ensures only_reads { OnlyReads (D.view desk.old) (D.view desk.new) }
+{
+    match read_repository(alloc, desk, name, limits) {
+        Ok(repository) => newest_of(&repository),
         Err(refusal) => Err(refusal),
     }
 }

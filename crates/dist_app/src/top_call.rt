@@ -2,7 +2,7 @@
 ghost use Rattle.std.specs.Prelude.{◌≡◌, ℕ, List, map, string_bytes, MatchResult};
 ghost use Rattle.dist_outside.specs.Files.{IsNotWriting};
 ghost use Rattle.dist_app.specs.Complete.{IsComplete};
-ghost use Rattle.dist_app.specs.Headline.{CheckExplainIsProved, CheckIsProved, FollowIsProved, MarksAreTried, StepsAreProved, SweepIsProved, UndecidedAreHard};
+ghost use Rattle.dist_app.specs.Headline.{CheckExplainIsProved, CheckIsProved, CheckRepairIsProved, FollowIsProved, MarksAreTried, StepsAreProved, SweepIsProved, UndecidedAreHard};
 ghost use Rattle.dist_app.specs.Run.{IsWithinStated, Leaves, Runs, stated_limits};
 ghost use Rattle.dist_app.specs.CarriedPrivate.{IsAnswered, IsRefused, Prints};
 
@@ -21,6 +21,7 @@ use dist_list::lists_are_exact;
 use dist_now::one_health;
 use dist_outside::{Desk, Limits, Sink, sink_grows, write_whole};
 use dist_package::packages_are_exact;
+use dist_repair::repairs_have_one_answer;
 use dist_repo::latest_is_one;
 use dist_space::spaces_are_one;
 use dist_subject::first_numbers_are_one;
@@ -45,6 +46,8 @@ pub fn run<D: Desk, W: Sink, E: Sink>(
     ensures check { CheckIsProved (map string_bytes words.now) stated_limits result (D.view desk.old) (D.view desk.new)
         (W.view out.old) (W.view out.new) }
     ensures check_explain { CheckExplainIsProved (map string_bytes words.now) stated_limits result (D.view desk.old) (D.view desk.new)
+        (W.view out.old) (W.view out.new) }
+    ensures check_repair { CheckRepairIsProved (map string_bytes words.now) stated_limits result (D.view desk.old) (D.view desk.new)
         (W.view out.old) (W.view out.new) }
     ensures steps { StepsAreProved (map string_bytes words.now) stated_limits result (D.view desk.old) (D.view desk.new)
         (W.view out.old) (W.view out.new) }
@@ -77,6 +80,8 @@ pub fn run_with<D: Desk, W: Sink, E: Sink>(
         (W.view out.old) (W.view out.new) }
     ensures check_explain { CheckExplainIsProved (map string_bytes words.now) limits.now result (D.view desk.old) (D.view desk.new)
         (W.view out.old) (W.view out.new) }
+    ensures check_repair { CheckRepairIsProved (map string_bytes words.now) limits.now result (D.view desk.old) (D.view desk.new)
+        (W.view out.old) (W.view out.new) }
     ensures steps { StepsAreProved (map string_bytes words.now) limits.now result (D.view desk.old) (D.view desk.new)
         (W.view out.old) (W.view out.new) }
     ensures follow { FollowIsProved (map string_bytes words.now) limits.now result (D.view desk.old) (D.view desk.new)
@@ -95,6 +100,7 @@ pub fn run_with<D: Desk, W: Sink, E: Sink>(
     lists_are_exact();
     latest_is_one();
     spaces_are_one();
+    repairs_have_one_answer();
     journals_have_one_end();
     accepted_claims_hold();
     undecided_questions_are_hard();

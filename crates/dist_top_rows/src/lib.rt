@@ -3,6 +3,7 @@
 #![tactic(auto)]
 
 pub mod check_explain_rows;
+pub mod check_repair_rows;
 pub mod check_rows;
 pub mod classes_rows;
 pub mod essential_rows;

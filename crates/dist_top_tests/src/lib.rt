@@ -4,6 +4,8 @@
 #[cfg(test)]
 mod check_explain_rows;
 #[cfg(test)]
+mod check_repair_rows;
+#[cfg(test)]
 mod check_rows;
 #[cfg(test)]
 mod classes_reports;

@@ -10,6 +10,7 @@ pub data CommandLine : Type 0 where
   Sweep : (kind : CertKind) → (packages cert : List ℕ) → (essential : Bool) → (limit : ℕ) → CommandLine
   Check : (packages cert : List ℕ) → CommandLine
   CheckExplain : (packages cert : List ℕ) → CommandLine
+  CheckRepair : (packages cert : List ℕ) → CommandLine
   Try : (size seed : ℕ) → CommandLine
   Steps : (packages later : List ℕ) → CommandLine
   Follow : (packages cert journal : List ℕ) → CommandLine

@@ -3,7 +3,8 @@ use Rattle.std.specs.Prelude.{◌≤◌, ℕ, List, map}
 use Rattle.std.specs.Borrow.{Bor}
 use Rattle.dist_base.specs.declared.TheConstants.{MAX_LIMIT, MAX_SIZE}
 use Rattle.dist_words.specs.Clap.{Options as Chosen}
-use Rattle.dist_words.specs.CommandLine.{CommandLine, Health, Classes, Sweep, Check, CheckExplain, Try, Steps, Follow}
+use Rattle.dist_words.specs.CommandLine.{CommandLine, Health, Classes, Sweep, Check, CheckExplain, CheckRepair}
+use Rattle.dist_words.specs.CommandLine.{Try, Steps, Follow}
 use Rattle.dist_words.specs.declared.command.Command.{Command}
 use Rattle.dist_words.specs.declared.command.Command.TheVariants as command
 use Rattle.dist_words.specs.declared.taken.Options.{Options}
@@ -15,6 +16,7 @@ line_of (command.Classes packages) = Classes packages.now
 line_of (command.Sweep words) = Sweep words.kind words.packages.now words.cert.now words.essential words.limit
 line_of (command.Check files) = Check files.packages.now files.cert.now
 line_of (command.CheckExplain files) = CheckExplain files.packages.now files.cert.now
+line_of (command.CheckRepair files) = CheckRepair files.packages.now files.cert.now
 line_of (command.Try words) = Try words.size words.seed
 line_of (command.Steps files) = Steps files.packages.now files.later.now
 line_of (command.Follow files) = Follow files.packages.now files.cert.now files.journal.now

@@ -8,6 +8,7 @@
 --   challenged       PACKAGES CERT            --limit, --essential
 --   check            PACKAGES CERT            none
 --   check-explain    PACKAGES CERT            none
+--   check-repair     PACKAGES CERT            none
 --   try              none                     --size and --seed, both needed
 --   steps            PACKAGES LATER           none
 --   follow           PACKAGES CERT JOURNAL    none
@@ -20,7 +21,8 @@ use Rattle.dist_cert.specs.declared.records.CertKind.TheVariants.{Strong, Outdat
 use Rattle.clap.specs.Walk.{Text, is_empty}
 use Rattle.clap.specs.Faults.{fault_of}
 use Rattle.dist_words.specs.Clap.{Options, Taken, simple_command, taken}
-use Rattle.dist_words.specs.CommandLine.{CommandLine, Health, Classes, Sweep, Check, CheckExplain, Try, Steps, Follow}
+use Rattle.dist_words.specs.CommandLine.{CommandLine, Health, Classes, Sweep, Check, CheckExplain, CheckRepair}
+use Rattle.dist_words.specs.CommandLine.{Try, Steps, Follow}
 
 -- ---- options
 
@@ -89,11 +91,13 @@ in_table word files options =
     else (if bytes_eq word (codes "check") then where_allowed (has_no_option options) (with_two Check files)
     else (if bytes_eq word (codes "check-explain") then where_allowed (has_no_option options)
     (with_two CheckExplain files)
+    else (if bytes_eq word (codes "check-repair") then where_allowed (has_no_option options)
+    (with_two CheckRepair files)
     else (if bytes_eq word (codes "try") then where_allowed (has_no_limit options)
     (with_none (seeded options.size options.seed) files)
     else (if bytes_eq word (codes "steps") then where_allowed (has_no_option options) (with_two Steps files)
     else (if bytes_eq word (codes "follow") then where_allowed (has_no_option options) (with_three Follow files)
-    else None)))))))))
+    else None))))))))))
 
 -- the command that the table has for what was taken
 abbrev pub accepted : Taken → Option CommandLine

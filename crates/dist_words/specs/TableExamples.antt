@@ -1,6 +1,6 @@
 -- Worked examples of the table.
 use Rattle.std.specs.Prelude.{◌≡◌, true, false, [], ◌∷◌, Some, None, codes, refl}
-use Rattle.dist_words.specs.CommandLine.{CheckExplain, Follow, Steps, Sweep, Try}
+use Rattle.dist_words.specs.CommandLine.{CheckExplain, CheckRepair, Follow, Steps, Sweep, Try}
 use Rattle.dist_cert.specs.declared.records.CertKind.TheVariants.{Strong, Challenged}
 use Rattle.dist_words.specs.Table.{in_table}
 
@@ -26,6 +26,11 @@ check_takes_no_limit = refl
 check_explain_takes_two_files : in_table (codes "check-explain") (codes "f" ∷ codes "g" ∷ [])
     (record { limit = None; size = None; seed = None; essential = false }) ≡ Some (CheckExplain (codes "f") (codes "g"))
 check_explain_takes_two_files = refl
+
+-- `check-repair f g`
+check_repair_takes_two_files : in_table (codes "check-repair") (codes "f" ∷ codes "g" ∷ [])
+    (record { limit = None; size = None; seed = None; essential = false }) ≡ Some (CheckRepair (codes "f") (codes "g"))
+check_repair_takes_two_files = refl
 
 -- `strong f --essential`
 strong_takes_two_files : in_table (codes "strong") (codes "f" ∷ [])

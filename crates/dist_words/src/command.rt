@@ -8,7 +8,7 @@ pub struct HealthFiles<'a> {
     pub list: &'a str,
 }
 
-/// The two files of `check` and of `check-explain PACKAGES CERT`.
+/// The two files of `check`, `check-explain` and `check-repair PACKAGES CERT`.
 #[derive(Clone, Copy, Debug)]
 pub struct CertFiles<'a> {
     pub packages: &'a str,
@@ -59,6 +59,7 @@ pub enum Command<'a> {
     Sweep(SweepWords<'a>),
     Check(CertFiles<'a>),
     CheckExplain(CertFiles<'a>),
+    CheckRepair(CertFiles<'a>),
     Try(TryWords),
     Steps(StepsFiles<'a>),
     Follow(FollowFiles<'a>),

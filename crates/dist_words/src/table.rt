@@ -4,7 +4,7 @@ ghost use Rattle.clap.specs.Matches.{found_of};
 ghost use Rattle.clap.specs.Walk.{rows_of};
 ghost use Rattle.dist_words.specs.Clap.{taken_of};
 ghost use Rattle.dist_words.specs.SimpleCommandPrivate.{IsMatched};
-ghost use Rattle.dist_words.specs.CommandLine.{Health, Classes, Check, CheckExplain, Follow, Steps};
+ghost use Rattle.dist_words.specs.CommandLine.{Health, Classes, Check, CheckExplain, CheckRepair, Follow, Steps};
 ghost use Rattle.dist_words.specs.Lines.{HasLimit, IsLimit, IsSize, line_of, names, seen};
 ghost use Rattle.dist_words.specs.Table.{IsBadWords, accepted, command_of, in_table, has_no_limit, has_no_option, has_no_seed, seeded, swept, where_allowed, with_none, with_one, with_three, with_two};
 ghost use Rattle.dist_words.specs.declared.error.WordsError.TheVariants.{BadWords};
@@ -69,6 +69,8 @@ fn in_table<'a>(word: &str, files: &[&'a str], options: Options) -> Option<Comma
         check(files, options)
     } else if word == "check-explain" {
         check_explain(files, options)
+    } else if word == "check-repair" {
+        check_repair(files, options)
     } else if word == "try" {
         seeded(files, options)
     } else if word == "steps" {
@@ -160,6 +162,18 @@ fn check_explain<'a>(files: &[&'a str], options: Options) -> Option<Command<'a>>
     match files {
         [packages, cert] if has_no_option(options) => {
             Some(Command::CheckExplain(CertFiles { packages, cert }))
+        }
+        _ => None,
+    }
+}
+
+/// `check-repair PACKAGES CERT`.
+fn check_repair<'a>(files: &[&'a str], options: Options) -> Option<Command<'a>>
+    ensures { option_map line_of result ≡ where_allowed (has_no_option (seen options)) (with_two CheckRepair (names files.now)) }
+{
+    match files {
+        [packages, cert] if has_no_option(options) => {
+            Some(Command::CheckRepair(CertFiles { packages, cert }))
         }
         _ => None,
     }

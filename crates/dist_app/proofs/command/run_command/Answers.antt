@@ -1,10 +1,11 @@
 use Rattle.dist_app.specs.Check.{CheckStages, Reports}
 use Rattle.dist_app.specs.CheckExplain.{CheckExplainStages, TellsExplained}
+use Rattle.dist_app.specs.CheckRepair.{CheckRepairStages, TellsRepair}
 use Rattle.dist_app.specs.Follow.{FollowStages, TellsFollowed}
 use Rattle.dist_app.specs.Health.{HealthStages, Judges}
 use Rattle.dist_app.specs.Steps.{StepsStages, TellsLater}
 use Rattle.dist_app.specs.Try.{Tries, TryStages}
-use Rattle.dist_words.specs.CommandLine.{Check, CheckExplain, Follow, Health, Steps, Try}
+use Rattle.dist_words.specs.CommandLine.{Check, CheckExplain, CheckRepair, Follow, Health, Steps, Try}
 use Rattle.dist_outside.specs.DeskView.{DeskView}
 use Rattle.dist_app.proofs.Due.{apart_stops, ok_more, err_more, read_answers, due_stops}
 use Rattle.dist_app.proofs.command.run_command.Goals as goal
@@ -38,6 +39,21 @@ returns-in-CheckExplain-clause-stops g c =
     (CheckExplainStages desk.files c.args.limits.now files.packages.now files.cert.now (TellsExplained desk.files))
     desk (g.D.Desk.view c.run_check_explain.new.desk) why (λ ending decides. decides) (λ apart. apart) c.run_check_explain.ensures.only_reads)
     c.run_check_explain.ensures.due)
+
+pub returns-in-CheckRepair-clause-answers : goal.returns-in-CheckRepair-clause-answers
+returns-in-CheckRepair-clause-answers g c =
+    rw c.in-CheckRepair.is (ok_more c.run_check_repair.result _ _ (λ answer. read_answers
+    (CheckRepair c.in-CheckRepair.files.packages.now c.in-CheckRepair.files.cert.now) c.args.limits.now (g.D.Desk.view c.args.desk.now)
+    _ answer.status answer.text.items c.run_check_repair.ensures.only_reads) c.run_check_repair.ensures.answers)
+
+pub returns-in-CheckRepair-clause-stops : goal.returns-in-CheckRepair-clause-stops
+returns-in-CheckRepair-clause-stops g c =
+    let desk : DeskView = g.D.Desk.view c.args.desk.now in
+    let files = c.in-CheckRepair.files in
+    rw c.in-CheckRepair.is (err_more c.run_check_repair.result _ _ (λ why. due_stops (CheckRepair files.packages.now files.cert.now) c.args.limits.now
+    (CheckRepairStages desk.files c.args.limits.now files.packages.now files.cert.now (TellsRepair desk.files))
+    desk (g.D.Desk.view c.run_check_repair.new.desk) why (λ ending decides. decides) (λ apart. apart) c.run_check_repair.ensures.only_reads)
+    c.run_check_repair.ensures.due)
 
 pub returns-in-Try-clause-answers : goal.returns-in-Try-clause-answers
 returns-in-Try-clause-answers g c =

@@ -1,6 +1,6 @@
 use Rattle.std.proofs.Common.{Global, map, string_bytes, subst}
 use Rattle.dist_outside.specs.declared.limits.Limits.{Limits}
-use Rattle.dist_app.specs.Headline.{CheckExplainIsProved, FollowIsProved, MarksAreTried, StepsAreProved, UndecidedAreHard}
+use Rattle.dist_app.specs.Headline.{CheckExplainIsProved, CheckRepairIsProved, FollowIsProved, MarksAreTried, StepsAreProved, UndecidedAreHard}
 use Rattle.dist_app.proofs.top_call.run.Goals as goal
 
 pub returns-clause-check_explain : goal.returns-clause-check_explain
@@ -8,6 +8,12 @@ returns-clause-check_explain g c =
     subst (λ (limits : Limits). CheckExplainIsProved (map (string_bytes {Z = Global}) c.args.words.now) limits c.run_with.result
     (g.D.Desk.view c.args.desk.now) (g.D.Desk.view c.run_with.new.desk) (g.W.Sink.view c.args.out.now) (g.W.Sink.view c.run_with.new.out))
     c.stated.ensures c.run_with.ensures.check_explain
+
+pub returns-clause-check_repair : goal.returns-clause-check_repair
+returns-clause-check_repair g c =
+    subst (λ (limits : Limits). CheckRepairIsProved (map (string_bytes {Z = Global}) c.args.words.now) limits c.run_with.result
+    (g.D.Desk.view c.args.desk.now) (g.D.Desk.view c.run_with.new.desk) (g.W.Sink.view c.args.out.now) (g.W.Sink.view c.run_with.new.out))
+    c.stated.ensures c.run_with.ensures.check_repair
 
 pub returns-clause-steps : goal.returns-clause-steps
 returns-clause-steps g c =

@@ -1,9 +1,10 @@
 use Rattle.std.proofs.Common.{map, string_bytes, subst, sym}
-use Rattle.dist_app.specs.Headline.{CheckExplainIsProved, CheckIsProved, FollowIsProved, StepsAreProved, SweepIsProved}
+use Rattle.dist_app.specs.Headline.{CheckExplainIsProved, CheckIsProved, CheckRepairIsProved, FollowIsProved, StepsAreProved, SweepIsProved}
 use Rattle.dist_app.specs.Run.{Runs}
 use Rattle.dist_app.specs.declared.status.Status.{Status}
 use Rattle.dist_app.proofs.CommandLaws.{one-space}
 use Rattle.dist_app.proofs.Completes.{run_completes}
+use Rattle.dist_app.proofs.Headlines.{check_repair_proved, check_repair_refused}
 use Rattle.dist_app.proofs.Headlines.{check_explain_proved, check_explain_refused, check_proved, check_refused, follow_proved, follow_refused}
 use Rattle.dist_app.proofs.Headlines.{steps_proved, steps_refused, sweep_proved, sweep_refused}
 use Rattle.dist_app.proofs.Runs.{answered_runs, refused_runs}
@@ -16,6 +17,7 @@ returns-in-Ok-clause-runs g c =
       lists = c.lists_are_exact.ensures;
       certificates = c.texts_have_one_answer.ensures;
       explanations = c.explanations_have_one_answer.ensures;
+      repairs = c.repairs_have_one_answer.ensures;
       numbers = c.first_numbers_are_one.ensures.one;
       spaces = one-space c.latest_is_one.ensures.one c.spaces_are_one.ensures;
       journals = c.journals_have_one_end.ensures;
@@ -34,6 +36,7 @@ returns-in-Err-clause-runs g c =
       lists = c.lists_are_exact.ensures;
       certificates = c.texts_have_one_answer.ensures;
       explanations = c.explanations_have_one_answer.ensures;
+      repairs = c.repairs_have_one_answer.ensures;
       numbers = c.first_numbers_are_one.ensures.one;
       spaces = one-space c.latest_is_one.ensures.one c.spaces_are_one.ensures;
       journals = c.journals_have_one_end.ensures;
@@ -82,6 +85,20 @@ returns-in-Err-clause-check_explain g c =
     (g.D.Desk.view c.carry_out.new.desk) (g.W.Sink.view c.args.out.now) (g.W.Sink.view c.carry_out.new.out))
     (sym c.status-status.ensures)
     (check_explain_refused _ c.args.limits.now c.in-Err.refusal (g.D.Desk.view c.args.desk.now) (g.D.Desk.view c.carry_out.new.desk)
+    (g.W.Sink.view c.args.out.now) (g.W.Sink.view c.carry_out.new.out))
+
+pub returns-in-Ok-clause-check_repair : goal.returns-in-Ok-clause-check_repair
+returns-in-Ok-clause-check_repair g c =
+    check_repair_proved _ c.args.limits.now c.in-Ok.status (g.D.Desk.view c.args.desk.now) (g.D.Desk.view c.carry_out.new.desk)
+    (g.W.Sink.view c.args.out.now) (g.W.Sink.view c.carry_out.new.out)
+    c.in-Ok.ensures.ends
+
+pub returns-in-Err-clause-check_repair : goal.returns-in-Err-clause-check_repair
+returns-in-Err-clause-check_repair g c =
+    subst (λ (s : Status). CheckRepairIsProved (map string_bytes c.args.words.now) c.args.limits.now s (g.D.Desk.view c.args.desk.now)
+    (g.D.Desk.view c.carry_out.new.desk) (g.W.Sink.view c.args.out.now) (g.W.Sink.view c.carry_out.new.out))
+    (sym c.status-status.ensures)
+    (check_repair_refused _ c.args.limits.now c.in-Err.refusal (g.D.Desk.view c.args.desk.now) (g.D.Desk.view c.carry_out.new.desk)
     (g.W.Sink.view c.args.out.now) (g.W.Sink.view c.carry_out.new.out))
 
 pub returns-in-Ok-clause-steps : goal.returns-in-Ok-clause-steps
@@ -133,6 +150,7 @@ returns-in-Ok-clause-complete g c =
         lists = c.lists_are_exact.ensures;
         certificates = c.texts_have_one_answer.ensures;
         explanations = c.explanations_have_one_answer.ensures;
+        repairs = c.repairs_have_one_answer.ensures;
         numbers = c.first_numbers_are_one.ensures.one;
         spaces = one-space c.latest_is_one.ensures.one c.spaces_are_one.ensures;
         journals = c.journals_have_one_end.ensures;
@@ -154,6 +172,7 @@ returns-in-Err-clause-complete g c =
         lists = c.lists_are_exact.ensures;
         certificates = c.texts_have_one_answer.ensures;
         explanations = c.explanations_have_one_answer.ensures;
+        repairs = c.repairs_have_one_answer.ensures;
         numbers = c.first_numbers_are_one.ensures.one;
         spaces = one-space c.latest_is_one.ensures.one c.spaces_are_one.ensures;
         journals = c.journals_have_one_end.ensures;

@@ -3,7 +3,7 @@ use Rattle.dist_app.specs.SpaceStage.{SpaceStage}
 use Rattle.dist_app.specs.Stages.{Then}
 use Rattle.dist_app.proofs.HealthStages.{packages_unread}
 use Rattle.dist_app.proofs.StepsStages.{space-due, space-kept}
-use Rattle.dist_app.proofs.steps_command.read_space.Goals as goal
+use Rattle.dist_app.proofs.spaces.read_space.Goals as goal
 
 pub returns-in-Ok-clause-goes : goal.returns-in-Ok-clause-goes
 returns-in-Ok-clause-goes g c =

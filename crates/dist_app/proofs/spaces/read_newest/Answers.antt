@@ -1,6 +1,6 @@
 use Rattle.std.proofs.Common.{inl, inr}
 use Rattle.dist_app.proofs.Due.{ok_more, err_more}
-use Rattle.dist_app.proofs.steps_command.read_newest.Goals as goal
+use Rattle.dist_app.proofs.spaces.read_newest.Goals as goal
 
 pub returns-in-Ok-clause-goes : goal.returns-in-Ok-clause-goes
 returns-in-Ok-clause-goes g c =
