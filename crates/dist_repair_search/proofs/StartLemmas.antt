@@ -149,7 +149,10 @@ module _ (s : SpaceView) (h : RepairHeader) (limits : Limits) where
 abbrev pub TellsExactly : (s : SpaceView) (most : ℕ) → Limits → Result ClauseList WorkError → Type 0
 TellsExactly s most limits result = (told : What) → IsExactly work.NoMemory result (work.TooLarge told) (PassesWith s most limits told)
 
-one-told : (first second : What) → Err {T = ClauseList} (work.TooLarge first) ≡ Err (work.TooLarge second) → first ≡ second
+abbrev failed : WorkError → Result ClauseList WorkError
+failed error = Err error
+
+one-told : (first second : What) → failed (work.TooLarge first) ≡ failed (work.TooLarge second) → first ≡ second
 one-told first second same = cc
 
 pub tells-err : (s : SpaceView) (most : ℕ) (limits : Limits) (error : WorkError) → TellsExactly s most limits (Err error)
@@ -158,9 +161,9 @@ tells-err s most limits (work.TooLarge told) exact other passes =
     inl (ap (λ (w : What). Err (work.TooLarge w)) (one-told told other ((exact other (λ is. cc)).1 passes)))
 tells-err s most limits work.NoMemory exact other passes = inr refl
 tells-err s most limits work.ReadFault exact other passes =
-    let is : Err {T = ClauseList} work.ReadFault ≡ Err (work.TooLarge other) = (exact other (λ is. cc)).1 passes in cc
+    let is : failed work.ReadFault ≡ failed (work.TooLarge other) = (exact other (λ is. cc)).1 passes in cc
 tells-err s most limits work.WriteFault exact other passes =
-    let is : Err {T = ClauseList} work.WriteFault ≡ Err (work.TooLarge other) = (exact other (λ is. cc)).1 passes in cc
+    let is : failed work.WriteFault ≡ failed (work.TooLarge other) = (exact other (λ is. cc)).1 passes in cc
 
 pub tells-ok : (s : SpaceView) (most : ℕ) (limits : Limits) (set : ClauseList) → TellsExactly s most limits (Ok set) → (result : Result Repair WorkError)
     → TellsFirst s most limits result
