@@ -24,7 +24,7 @@ use Rattle.dist_outside.specs.declared.trouble.WorkError.TheVariants as work
 use Rattle.dist_repair.specs.Answered.{Answers, beyond, own}
 use Rattle.dist_repair.specs.Counters.{counted_variables, counter_of}
 use Rattle.dist_repair.specs.InputsPrivate.{AreInputsWithin, inputs_of}
-use Rattle.dist_repair.specs.NotesPrivate.{AreNotesOf, AreWordsOf, NotesView, WordsView}
+use Rattle.dist_repair.specs.NotesPrivate.{AreNotesOf, AreWordsOf, NotesView, WordsView, answer_of}
 use Rattle.dist_repair.specs.RepairFiles.{Fits, IsBasisOf, PassesWith, asked_by, repair_files}
 use Rattle.dist_repair.specs.Verdicts.{AcceptedSays, IsHeaderOf}
 use Rattle.dist_repair.specs.declared.TheConstants.{MAX_MOST}
@@ -36,7 +36,7 @@ use Rattle.dist_space.specs.declared.meaning.Meaning.TheVariants.{Present}
 use Rattle.dist_sweep.specs.Asking.{AskerView}
 use Rattle.dist_repair_search.specs.QuestionOrder.{repair_asks}
 use Rattle.dist_repair_search.specs.SearchAnswers.{OfRepair, SearchAnswers, TellsFirst, first_numbers}
-use Rattle.dist_repair_search.specs.SearchPrivate.{AreOver}
+use Rattle.dist_repair_search.specs.SearchPrivate.{AreOver, RunsSearch, TellsAnswer, WritesFile}
 
 module _ (s : SpaceView) (h : RepairHeader) (limits : Limits) (set : ClauseList) (inputs : AreInputsWithin limits s h.most set)
     (short : h.«package» < length s.repository.packages) (few : h.most ≤ MAX_MOST) where
@@ -112,6 +112,17 @@ module _ (s : SpaceView) (h : RepairHeader) (limits : Limits) (set : ClauseList)
     Writes repair name old new result = WrittenAnswers (setting_of (repair_files s) limits (inputs_of set) (first_numbers s h (inputs_of set)))
         (course_of (repair_files s) (repair_asks s) (first_numbers s h (inputs_of set))) (Right repair) name old new result
 
+    -- what the search wrote, in the order of what is known of it
+    pub search-done : (other : SpaceView) → other ≡ s → (told : List ℕ) → told ≡ first_numbers s h (inputs_of set) → All IsSmall told
+        → All (IsClauseOver set.variables) set.clauses → (a : AskerView) → a ≡ new_asker set h.limit limits → (w : WordsView) (n m : NotesView)
+        → AreWordsOf s (asked_by told) w → AreNotesOf s (asked_by told) [] n → (name : List ℕ) (old new : DeskView) (result : Result (Unit {0}) WorkError)
+        → WritesFile other w n m told a name old new result → Writes (answer_of m) name old new result
+    search-done other same told is small over a a_is w n m words noted name old new result writes =
+        let here = subst (λ (v : SpaceView). WritesFile v w n m told a name old new result) same writes in
+        subst (λ (ns : List ℕ). WrittenAnswers (setting_of (repair_files s) limits (inputs_of set) ns) (course_of (repair_files s) (repair_asks s) ns)
+        (λ done text. IsAnswered (repair_files s) limits text ns (λ found. Answers s (asked_by ns) found (answer_of m))) name old new result) is
+        (here limits (inputs_of set) (may-inquire told is small over a a_is w n words noted))
+
     pub search-ok : (repair : Repair) (name : List ℕ) (old new : DeskView) → Writes repair name old new (Ok tt)
         → SearchAnswers s h limits name old new (Ok repair)
     search-ok repair name old new (text, holds, whole, answered) =
@@ -169,3 +180,37 @@ pub tells-ok : (s : SpaceView) (most : ℕ) (limits : Limits) (set : ClauseList)
     → TellsFirst s most limits result
 tells-ok s most limits set exact result other passes =
     let is : Ok set ≡ Err (work.TooLarge other) = (exact other (λ is. cc)).1 passes in cc
+
+-- ---- the answer of a search
+
+abbrev unit-failed : WorkError → Result (Unit {0}) WorkError
+unit-failed error = Err error
+
+abbrev unit-done : Result (Unit {0}) WorkError
+unit-done = Ok tt
+
+one-failure : (first second : WorkError) → unit-failed first ≡ unit-failed second → first ≡ second
+one-failure first second same = cc
+
+module _ (s other : SpaceView) (same : other ≡ s) (w : WordsView) (n m : NotesView) (told : List ℕ) (a : AskerView) (name : List ℕ) (old new : DeskView)
+    (words : AreWordsOf s (asked_by told) w) (noted : AreNotesOf s (asked_by told) [] n) where
+  pub tells-answer : (repair : Repair) → repair ≡ answer_of m → RunsSearch other w n m told a name old new (Ok tt)
+      → TellsAnswer s told a name old new (Ok repair)
+  tells-answer repair is (inl none) = let never : unit-done ≡ unit-failed work.NoMemory = none.0 in cc
+  tells-answer repair is (inr writes) = inr (λ limits basis may.
+      let here = subst (λ (v : SpaceView). WritesFile v w n m told a name old new (Ok tt)) same writes limits basis (may w n words noted) in
+      let claims : IsAnswered (repair_files s) limits here.0 told (λ found. Answers s (asked_by told) found repair) =
+      subst (λ (r : Repair). IsAnswered (repair_files s) limits here.0 told (λ found. Answers s (asked_by told) found r)) (sym is) here.3 in
+      (here.0, here.1, here.2, claims))
+
+  pub tells-error : (error : WorkError) → RunsSearch other w n m told a name old new (Err error) → TellsAnswer s told a name old new (Err error)
+  tells-error error (inl none) =
+      inl (ap (λ (e : WorkError). Err e) (one-failure error work.NoMemory none.0), none.1)
+  tells-error (work.TooLarge over) (inr writes) = inr (λ limits basis may.
+      subst (λ (v : SpaceView). WritesFile v w n m told a name old new (Err (work.TooLarge over))) same writes limits basis (may w n words noted))
+  tells-error work.WriteFault (inr writes) = inr (λ limits basis may.
+      subst (λ (v : SpaceView). WritesFile v w n m told a name old new (Err work.WriteFault)) same writes limits basis (may w n words noted))
+  tells-error work.NoMemory (inr writes) = inr (λ limits basis may.
+      subst (λ (v : SpaceView). WritesFile v w n m told a name old new (Err work.NoMemory)) same writes limits basis (may w n words noted))
+  tells-error work.ReadFault (inr writes) = inr (λ limits basis may.
+      subst (λ (v : SpaceView). WritesFile v w n m told a name old new (Err work.ReadFault)) same writes limits basis (may w n words noted))
