@@ -103,46 +103,34 @@ module _ (s : SpaceView) (h : RepairHeader) (limits : Limits) (set : ClauseList)
           keeps = subst Keeps is (words, noted);
         }))
 
-    -- what was written, by the answer of the search
-    abbrev pub Right : Repair → Unit {0} → List ℕ → Type 0
-    Right repair done text = IsAnswered (repair_files s) limits text (first_numbers s h (inputs_of set))
-        (λ found. Answers s (asked_by (first_numbers s h (inputs_of set))) found repair)
+    -- what the search wrote, with the numbers of the first line
+    abbrev pub Writes : (name : List ℕ) → DeskView → DeskView → Result Repair WorkError → Type 0
+    Writes name old new result = WrittenAnswers (setting_of (repair_files s) limits (inputs_of set) (first_numbers s h (inputs_of set)))
+        (course_of (repair_files s) (repair_asks s) (first_numbers s h (inputs_of set)))
+        (λ repair text. IsAnswered (repair_files s) limits text (first_numbers s h (inputs_of set))
+        (λ found. Answers s (asked_by (first_numbers s h (inputs_of set))) found repair)) name old new result
 
-    abbrev pub Writes : Repair → (name : List ℕ) → DeskView → DeskView → Result (Unit {0}) WorkError → Type 0
-    Writes repair name old new result = WrittenAnswers (setting_of (repair_files s) limits (inputs_of set) (first_numbers s h (inputs_of set)))
-        (course_of (repair_files s) (repair_asks s) (first_numbers s h (inputs_of set))) (Right repair) name old new result
-
-    -- what the search wrote, in the order of what is known of it
-    pub search-done : (other : SpaceView) → other ≡ s → (told : List ℕ) → told ≡ first_numbers s h (inputs_of set) → All IsSmall told
-        → All (IsClauseOver set.variables) set.clauses → (a : AskerView) → a ≡ new_asker set h.limit limits → (w : WordsView) (n m : NotesView)
-        → AreWordsOf s (asked_by told) w → AreNotesOf s (asked_by told) [] n → (name : List ℕ) (old new : DeskView) (result : Result (Unit {0}) WorkError)
-        → WritesFile other w n m told a name old new result → Writes (answer_of m) name old new result
-    search-done other same told is small over a a_is w n m words noted name old new result writes =
-        let here = subst (λ (v : SpaceView). WritesFile v w n m told a name old new result) same writes in
-        subst (λ (ns : List ℕ). WrittenAnswers (setting_of (repair_files s) limits (inputs_of set) ns) (course_of (repair_files s) (repair_asks s) ns)
-        (λ done text. IsAnswered (repair_files s) limits text ns (λ found. Answers s (asked_by ns) found (answer_of m))) name old new result) is
-        (here limits (inputs_of set) (may-inquire told is small over a a_is w n words noted))
-
-    pub search-ok : (repair : Repair) (name : List ℕ) (old new : DeskView) → Writes repair name old new (Ok tt)
-        → SearchAnswers s h limits name old new (Ok repair)
-    search-ok repair name old new (text, holds, whole, answered) =
+    by-result : (name : List ℕ) (old new : DeskView) (result : Result Repair WorkError) → Writes name old new result
+        → SearchAnswers s h limits name old new result
+    by-result name old new (Ok repair) (text, holds, whole, answered) =
         (text, holds, (first_numbers s h (inputs_of set), header-of, answered), (inputs_of set, inputs.counted, whole))
+    by-result name old new (Err (work.TooLarge what.Variables)) (text, holds, full) = absurd full.passes.3
+    by-result name old new (Err (work.TooLarge what.Clauses)) (text, holds, full) = absurd full.passes.3
+    by-result name old new (Err (work.TooLarge what.Literals)) (text, holds, full) = absurd full.passes.3
+    by-result name old new (Err (work.TooLarge told)) (text, holds, full) = (text, holds, (inputs_of set, inputs.counted, full))
+    by-result name old new (Err work.WriteFault) (rose, leaves) = (rose, (inputs_of set, inputs.counted, leaves))
+    by-result name old new (Err work.NoMemory) leaves = inr (inputs_of set, inputs.counted, leaves)
+    by-result name old new (Err work.ReadFault) none = absurd none
 
-    pub search-err : (repair : Repair) (name : List ℕ) (old new : DeskView) (error : WorkError) → Writes repair name old new (Err error)
-        → SearchAnswers s h limits name old new (Err error)
-    search-err repair name old new (work.TooLarge what.Variables) (text, holds, full) = absurd full.passes.3
-    search-err repair name old new (work.TooLarge what.Clauses) (text, holds, full) = absurd full.passes.3
-    search-err repair name old new (work.TooLarge what.Literals) (text, holds, full) = absurd full.passes.3
-    search-err repair name old new (work.TooLarge told) (text, holds, full) = (text, holds, (inputs_of set, inputs.counted, full))
-    search-err repair name old new work.WriteFault (rose, leaves) = (rose, (inputs_of set, inputs.counted, leaves))
-    search-err repair name old new work.NoMemory leaves = inr (inputs_of set, inputs.counted, leaves)
-    search-err repair name old new error none = absurd none
-
-    pub search-says : (s_is : IsSpace s) → (repair : Repair) (name : List ℕ) (old new : DeskView)
-        → ((text numbers : List ℕ) → IsHeaderOf numbers h → IsAnswered (repair_files s) limits text numbers (λ found. Answers s (asked_by numbers) found repair)
-        → AcceptedSays s h repair)
-        → Writes repair name old new (Ok tt) → AcceptedSays s h repair
-    search-says s_is repair name old new law (text, holds, whole, answered) = law text (first_numbers s h (inputs_of set)) header-of answered
+    module _ (told : List ℕ) (is : told ≡ first_numbers s h (inputs_of set)) (small : All IsSmall told)
+        (over : All (IsClauseOver set.variables) set.clauses) (name : List ℕ) (old new : DeskView) where
+      pub search-answers : (result : Result Repair WorkError) → TellsAnswer s told (new_asker set h.limit limits) name old new result
+          → SearchAnswers s h limits name old new result
+      search-answers result (inl none) = subst (SearchAnswers s h limits name old new) (sym none.0) (inl none.1)
+      search-answers result (inr tells) = by-result name old new result
+          (subst (λ (ns : List ℕ). WrittenAnswers (setting_of (repair_files s) limits (inputs_of set) ns) (course_of (repair_files s) (repair_asks s) ns)
+          (λ repair text. IsAnswered (repair_files s) limits text ns (λ found. Answers s (asked_by ns) found repair)) name old new result) is
+          (tells limits (inputs_of set) (λ w n words noted. may-inquire told is small over (new_asker set h.limit limits) refl w n words noted)))
 
 -- ---- where the clauses pass a number
 
@@ -214,3 +202,12 @@ module _ (s other : SpaceView) (same : other ≡ s) (w : WordsView) (n m : Notes
       subst (λ (v : SpaceView). WritesFile v w n m told a name old new (Err work.NoMemory)) same writes limits basis (may w n words noted))
   tells-error work.ReadFault (inr writes) = inr (λ limits basis may.
       subst (λ (v : SpaceView). WritesFile v w n m told a name old new (Err work.ReadFault)) same writes limits basis (may w n words noted))
+
+-- what is answered is true
+pub search-says : (s : SpaceView) (h : RepairHeader) (limits : Limits) (name : List ℕ) (old new : DeskView) (result : Result Repair WorkError)
+    → SearchAnswers s h limits name old new result
+    → ((text numbers : List ℕ) (repair : Repair) → IsHeaderOf numbers h
+    → IsAnswered (repair_files s) limits text numbers (λ found. Answers s (asked_by numbers) found repair) → AcceptedSays s h repair)
+    → IfOk result (AcceptedSays s h)
+search-says s h limits name old new (Ok repair) (text, holds, accepted, whole) law = law text accepted.0 repair accepted.1 accepted.2
+search-says s h limits name old new (Err error) answers law = tt
