@@ -1,19 +1,19 @@
 -- What a search begins with, and what it answers.
-use Rattle.std.proofs.Common.{◌≡◌, ◌≢◌, ◌⊎◌, inl, inr, ℕ, ◌+◌, ◌-◌, ◌<◌, ◌≤◌, List, [], ◌∷◌, length, Result, Ok, Err, IfOk, IfErr, refl, sym, ap, subst, ◌∙◌}
+use Rattle.std.proofs.Common.{◌≡◌, inl, inr, ℕ, ◌+◌, ◌-◌, ◌<◌, ◌≤◌, List, [], length, Result, Ok, Err, IfOk, refl, sym, ap, subst}
 use Rattle.std.proofs.Common.{arith}
 use Rattle.std.specs.Prelude.{All}
 use Rattle.dist_base.specs.Answers.{IsExactly}
 use Rattle.dist_base.specs.declared.TheConstants.{MAX_LIMIT}
 use Rattle.dist_clause.specs.ClauseList.{ClauseList}
-use Rattle.dist_clause.specs.Formula.{Literal, IsClauseOver}
+use Rattle.dist_clause.specs.Formula.{IsClauseOver}
 use Rattle.dist_cert.specs.Form.{IsSmall}
 use Rattle.dist_findings.specs.AnswerFiles.{Inputs}
 use Rattle.dist_findings.specs.Answers.{IsAnswered}
 use Rattle.dist_findings.specs.Start.{HasRightNumbers}
-use Rattle.dist_inquiry.specs.AnswerText.{IsRightBasis, setting_of}
+use Rattle.dist_inquiry.specs.AnswerText.{setting_of}
 use Rattle.dist_inquiry.specs.Inquiring.{MayInquire, course_of}
 use Rattle.dist_inquiry.specs.StartLaws.{heading-by, log-at-start, new_asker}
-use Rattle.dist_inquiry.specs.Written.{IsFull, LeavesCut, WrittenAnswers}
+use Rattle.dist_inquiry.specs.Written.{WrittenAnswers}
 use Rattle.dist_judge.specs.Causes.{IsLarge}
 use Rattle.dist_outside.specs.DeskView.{DeskView}
 use Rattle.dist_outside.specs.declared.limits.Limits.{Limits}
@@ -21,8 +21,7 @@ use Rattle.dist_outside.specs.declared.trouble.What.{What}
 use Rattle.dist_outside.specs.declared.trouble.What.TheVariants as what
 use Rattle.dist_outside.specs.declared.trouble.WorkError.{WorkError}
 use Rattle.dist_outside.specs.declared.trouble.WorkError.TheVariants as work
-use Rattle.dist_repair.specs.Answered.{Answers, beyond, own}
-use Rattle.dist_repair.specs.Counters.{counted_variables, counter_of}
+use Rattle.dist_repair.specs.Answered.{Answers}
 use Rattle.dist_repair.specs.InputsPrivate.{AreInputsWithin, inputs_of}
 use Rattle.dist_repair.specs.NotesPrivate.{AreNotesOf, AreWordsOf, NotesView, WordsView, answer_of}
 use Rattle.dist_repair.specs.RepairFiles.{Fits, IsBasisOf, PassesWith, asked_by, repair_files}
@@ -35,7 +34,7 @@ use Rattle.dist_space.specs.VariableLaws.{variable-range}
 use Rattle.dist_space.specs.declared.meaning.Meaning.TheVariants.{Present}
 use Rattle.dist_sweep.specs.Asking.{AskerView}
 use Rattle.dist_repair_search.specs.QuestionOrder.{repair_asks}
-use Rattle.dist_repair_search.specs.SearchAnswers.{OfRepair, SearchAnswers, TellsFirst, first_numbers}
+use Rattle.dist_repair_search.specs.SearchAnswers.{SearchAnswers, TellsFirst, first_numbers}
 use Rattle.dist_repair_search.specs.SearchPrivate.{AreOver, RunsSearch, TellsAnswer, WritesFile}
 
 module _ (s : SpaceView) (h : RepairHeader) (limits : Limits) (set : ClauseList) (inputs : AreInputsWithin limits s h.most set)

@@ -37,7 +37,14 @@ fn first_numbers(
     ensures small { IfOk result (λ numbers. All IsSmall numbers.items) }
 {
     let packages = space.package_count();
-    let numbers = [limit, packages, set.variables(), set.len(), package + 1, most];
+    let numbers = [
+        limit,
+        packages,
+        set.variables(),
+        set.len(),
+        package + 1,
+        most,
+    ];
     Vec::from_slice(alloc, &numbers)
 }
 

@@ -38,14 +38,7 @@ fn ask_alone<D: Desk>(
     // What this call tells is that it is a space.
     let _variables = repairing.space.variables();
     let question = words.alone();
-    let _answer = ask_and_note(
-        repairing.alloc,
-        repairing,
-        inquirer,
-        notes,
-        desk,
-        &question,
-    )?;
+    let _answer = ask_and_note(repairing.alloc, repairing, inquirer, notes, desk, &question)?;
     Ok(())
 }
 
@@ -73,14 +66,7 @@ fn ask_at<D: Desk>(
     // What this call tells is that it is a space.
     let _variables = repairing.space.variables();
     let question = words.at(number);
-    let _answer = ask_and_note(
-        repairing.alloc,
-        repairing,
-        inquirer,
-        notes,
-        desk,
-        &question,
-    )?;
+    let _answer = ask_and_note(repairing.alloc, repairing, inquirer, notes, desk, &question)?;
     Ok(())
 }
 

@@ -1,4 +1,4 @@
-use Rattle.std.proofs.Common.{◌≡◌, ◌≤◌, inl, inr, ℕ, Result, Err, refl, sym, ap, subst}
+use Rattle.std.proofs.Common.{◌≤◌, inl, inr, ℕ, Result, refl, sym, ap, subst}
 use Rattle.dist_inquiry.specs.StartLaws.{new_asker}
 use Rattle.dist_outside.specs.DeskView.{DeskView}
 use Rattle.dist_outside.specs.declared.trouble.WorkError.{WorkError}
