@@ -115,8 +115,8 @@ SearchMore s w n m old new a b = (limits : Limits) (numbers : List ℕ) (basis :
 
 -- ---- the file
 
--- Where the search may begin, what it leaves of the file is as it is to be; at Ok it is accepted with the answer that is
--- noted then.
+-- Where the search may begin, what it leaves of the file is as it is to be; at Ok it is accepted with the answer that
+-- is noted then.
 abbrev pub WritesFile : SpaceView → WordsView → (n m : NotesView) → (numbers : List ℕ) → AskerView → (name : List ℕ)
     → DeskView → DeskView → Result (Unit {0}) WorkError → Type 0
 WritesFile s w n m numbers a name old new result = (limits : Limits) (basis : Inputs)
@@ -124,7 +124,8 @@ WritesFile s w n m numbers a name old new result = (limits : Limits) (basis : In
     basis a
     → WrittenAnswers (setting_at s limits numbers basis) (course_of (repair_files s) (repair_asks s) numbers)
     (λ done text. IsAnswered (repair_files s) limits text numbers
-    (λ found. Answers s (asked_by numbers) found (answer_of m))) name old new result
+    (λ found. Answers s (asked_by numbers) found (answer_of m)))
+    name old new result
 
 -- or there was no memory, and nothing was done
 abbrev pub RunsSearch : SpaceView → WordsView → (n m : NotesView) → (numbers : List ℕ) → AskerView → (name : List ℕ)
@@ -141,5 +142,6 @@ TellsAnswer s numbers a name old new result = ((result ≡ Err NoMemory) × (new
     → MayInquire (repair_files s) (λ ns. AreWordsOf s (asked_by ns) w × AreNotesOf s (asked_by ns) [] n) limits numbers
     basis a)
     → WrittenAnswers (setting_at s limits numbers basis) (course_of (repair_files s) (repair_asks s) numbers)
-    (λ repair text. IsAnswered (repair_files s) limits text numbers (λ found. Answers s (asked_by numbers) found repair))
+    (λ repair text. IsAnswered (repair_files s) limits text numbers
+    (λ found. Answers s (asked_by numbers) found repair))
     name old new result)
