@@ -1,10 +1,10 @@
 -- What a question finds: it is true, and it is what a question of a repair may find.
-use Rattle.std.proofs.Common.{◌≡◌, inl, inr, ℕ, ◌+◌, ◌-◌, ◌<◌, ◌≤◌, Bool, true, false, List, [], ◌∷◌, ◌++◌, length, refl, sym, ap, subst, ◌∙◌, arith}
+use Rattle.std.proofs.Common.{◌≡◌, inl, inr, ℕ, ◌≤◌, Bool, true, false, List, [], ◌∷◌, ◌++◌, length, refl, sym, subst, ◌∙◌, arith}
 use Rattle.std.specs.List.{AllPass}
 use Rattle.std.specs.Prelude.{All, Contains}
 use Rattle.std.proofs.lemmas.Bool.{cond-true, false≢true}
 use Rattle.std.proofs.lemmas.List.Elements.{All-contains, All-head, All-map, All-tail, Contains-append_cases, Contains-append_left}
-use Rattle.dist_clause.specs.Formula.{IsModel, IsTrueLiteral, literal, value_of}
+use Rattle.dist_clause.specs.Formula.{IsTrueLiteral, literal, value_of}
 use Rattle.dist_cert.specs.ClaimRules.{no, yes}
 use Rattle.dist_cert.specs.Form.{Word}
 use Rattle.dist_cert.specs.Groups.{clause_of}
@@ -18,7 +18,7 @@ use Rattle.dist_findings.specs.declared.finding.Finding.TheVariants as finding
 use Rattle.dist_inquiry.specs.AnswerText.{finding_of}
 use Rattle.dist_inquiry.specs.Asking.{Says}
 use Rattle.dist_inquiry.specs.Inquiry.{Setting, matter_in}
-use Rattle.dist_repair.specs.Answered.{Asked, AsksAlone, AsksAt, IsLower, beyond, installed, installed_in, own}
+use Rattle.dist_repair.specs.Answered.{Asked, AsksAlone, AsksAt, IsLower, beyond, installed_in, own}
 use Rattle.dist_repair.specs.QuestionLaws.{not-both}
 use Rattle.dist_repair.specs.Searched.{IsBegun, IsFoundAlone, IsFoundAt}
 use Rattle.dist_solver.specs.declared.answers.Answer.{Answer}

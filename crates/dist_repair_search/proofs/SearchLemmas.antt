@@ -1,13 +1,11 @@
 -- All questions, one after another, and the file that they make.
-use Rattle.std.proofs.Common.{◌≡◌, ◌≢◌, inl, inr, Result, Ok, Err, IfErr, ℕ, ◌+◌, ◌<◌, ◌≤◌, List, [], ◌∷◌, ◌++◌, refl, sym, ap, subst, ◌∙◌, arith, append_assoc, append-nil}
-use Rattle.std.specs.Prelude.{All}
+use Rattle.std.proofs.Common.{◌≡◌, ◌≢◌, inl, inr, Result, Ok, Err, IfErr, ℕ, ◌+◌, ◌≤◌, List, [], ◌∷◌, ◌++◌, sym, ap, subst, arith}
 use Rattle.std.proofs.lemmas.List.Elements.{All-cons, All-nil}
 use Rattle.dist_clause.specs.Formula.{Literal}
 use Rattle.dist_cert.specs.FileLines.{lines_text}
 use Rattle.dist_cert.specs.ClaimRules.{no, yes}
 use Rattle.dist_cert.specs.Form.{Word}
 use Rattle.dist_cert.specs.ListLaws.{contains-cases}
-use Rattle.dist_cert.specs.declared.records.CertRecord.{CertRecord}
 use Rattle.dist_findings.specs.AnswerFiles.{Inputs}
 use Rattle.dist_findings.specs.Findings.{findings, findings_behind}
 use Rattle.dist_findings.specs.SoundLaws.{IsSound}
@@ -15,7 +13,6 @@ use Rattle.dist_findings.specs.declared.finding.Finding.{Finding}
 use Rattle.dist_inquiry.specs.AnswerText.{NoteMore}
 use Rattle.dist_inquiry.specs.Asking.{AskStops}
 use Rattle.dist_inquiry.specs.Inquiring.{MaySettle, SettleMore, SettleStops}
-use Rattle.dist_inquiry.specs.Inquiry.{Setting, Stops}
 use Rattle.dist_inquiry.specs.InquiryLaws.{stops-after}
 use Rattle.dist_outside.specs.DeskView.{DeskView, FileGrew}
 use Rattle.dist_outside.specs.declared.limits.Limits.{Limits}
@@ -31,8 +28,8 @@ use Rattle.dist_space_clauses.specs.SpaceClauses.{AreSpaceClauses}
 use Rattle.dist_sweep.specs.Asking.{AskerView, IsOver}
 use Rattle.dist_sweep.specs.ScriptLaws.{TwiceLaw, lines-more}
 use Rattle.dist_repair_search.specs.QuestionOrder.{repair_asks}
-use Rattle.dist_repair_search.specs.SearchPrivate.{AloneMore, AloneStops, AreOver, AreRight, ComesTo, IsSearched, IsWrittenAt, NextMore, NextStops}
-use Rattle.dist_repair_search.specs.SearchPrivate.{SearchMore, StandsAt, setting_at}
+use Rattle.dist_repair_search.specs.SearchPrivate.{AloneMore, AloneStops, AreOver, AreRight, ComesTo, IsWrittenAt, NextMore, NextStops}
+use Rattle.dist_repair_search.specs.SearchPrivate.{SearchMore, setting_at}
 use Rattle.dist_repair_search.proofs.StepLemmas.{after-alone, after-at, noting, stops-alone, stops-at}
 
 -- ---- the questions are over the variables

@@ -1,9 +1,8 @@
 -- A question that was asked behind some lines, and where the search stands behind it.
-use Rattle.std.proofs.Common.{◌≡◌, inl, inr, ℕ, ◌+◌, ◌-◌, ◌<◌, ◌≤◌, Bool, List, [], ◌∷◌, ◌++◌, length, refl, sym, ap, subst, ◌∙◌, arith, append-nil}
-use Rattle.std.specs.Prelude.{All, Contains}
-use Rattle.std.proofs.lemmas.List.Elements.{All-nil, All-push, Contains-append_cases}
+use Rattle.std.proofs.Common.{◌≡◌, inl, inr, ℕ, ◌+◌, ◌-◌, ◌<◌, ◌≤◌, List, [], ◌∷◌, ◌++◌, length, refl, sym, ap, subst, ◌∙◌, arith}
+use Rattle.std.specs.Prelude.{All}
+use Rattle.std.proofs.lemmas.List.Elements.{All-push, Contains-append_cases}
 use Rattle.dist_clause.specs.Formula.{Literal}
-use Rattle.dist_cert.specs.FileLines.{lines_text}
 use Rattle.dist_cert.specs.Form.{Word}
 use Rattle.dist_cert.specs.declared.records.CertRecord.{CertRecord}
 use Rattle.dist_cert.specs.declared.records.CertRecord.TheVariants.{Question}
@@ -11,16 +10,16 @@ use Rattle.dist_findings.specs.AnswerFiles.{Inputs}
 use Rattle.dist_findings.specs.Findings.{findings, findings_behind}
 use Rattle.dist_findings.specs.SoundLaws.{IsSound}
 use Rattle.dist_findings.specs.declared.finding.Finding.{Finding}
-use Rattle.dist_inquiry.specs.AnswerText.{IsAskedAndNoted, NoteMore, Noting, finding_of}
+use Rattle.dist_inquiry.specs.AnswerText.{IsAskedAndNoted, Noting, finding_of}
 use Rattle.dist_inquiry.specs.Asking.{AskStops}
 use Rattle.dist_inquiry.specs.Inquiry.{Setting, Stops}
 use Rattle.dist_inquiry.specs.InquiryLaws.{lines-asked, stops-asking}
 use Rattle.dist_outside.specs.DeskView.{DeskView}
 use Rattle.dist_outside.specs.declared.limits.Limits.{Limits}
 use Rattle.dist_outside.specs.declared.trouble.WorkError.{WorkError}
-use Rattle.dist_repair.specs.Answered.{Asked, AsksAlone, AsksAt, IsLower, beyond, own}
-use Rattle.dist_repair.specs.Counters.{counted_clauses, counted_variables, counter_of}
-use Rattle.dist_repair.specs.NotesPrivate.{AreNotesOf, AreWordsOf, NotesView, WordsView}
+use Rattle.dist_repair.specs.Answered.{AsksAlone, AsksAt, IsLower, beyond, own}
+use Rattle.dist_repair.specs.Counters.{counted_clauses}
+use Rattle.dist_repair.specs.NotesPrivate.{AreNotesOf, NotesView, WordsView}
 use Rattle.dist_repair.specs.QuestionLaws.{not-both, one-number}
 use Rattle.dist_repair.specs.RepairFiles.{AreCountedInputs, IsDecided, asked_by, most_of, number_at}
 use Rattle.dist_repair.specs.Searched.{IsBegun, NextDecides}
@@ -32,7 +31,7 @@ use Rattle.dist_space_clauses.specs.SpaceClauses.{AreSpaceClauses}
 use Rattle.dist_sweep.specs.Asking.{AskerView, question_lines}
 use Rattle.dist_sweep.specs.Words.{closing_line}
 use Rattle.dist_repair_search.specs.QuestionOrder.{WasNotAsked, repair_asks}
-use Rattle.dist_repair_search.specs.SearchPrivate.{AloneMore, AloneStops, AreRight, AskedBelow, ComesTo, IsWrittenAt, NextMore, NextStops, StandsAt}
+use Rattle.dist_repair_search.specs.SearchPrivate.{AreRight, ComesTo, IsWrittenAt, StandsAt}
 use Rattle.dist_repair_search.specs.SearchPrivate.{setting_at}
 use Rattle.dist_repair_search.proofs.FoundLemmas.{begun-alone, finding-sound, found-alone, found-at, lower-alone, question-in}
 

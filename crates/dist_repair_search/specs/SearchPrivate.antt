@@ -1,20 +1,25 @@
 -- Serves private contracts: what is kept while the search asks.
-use Rattle.std.specs.Prelude.{◌⊎◌, ℕ, ◌+◌, ◌<◌, ◌≤◌, List, [], ◌++◌, All}
+use Rattle.std.specs.Prelude.{◌≡◌, ◌⊎◌, ℕ, ◌+◌, ◌<◌, ◌≤◌, List, [], ◌++◌, All, Result, Err}
 use Rattle.dist_cert.specs.declared.records.CertRecord.{CertRecord}
 use Rattle.dist_cert.specs.FileLines.{lines_text}
 use Rattle.dist_findings.specs.AnswerFiles.{Inputs}
+use Rattle.dist_findings.specs.Answers.{IsAnswered}
 use Rattle.dist_findings.specs.Findings.{findings}
 use Rattle.dist_findings.specs.SoundLaws.{IsSound}
 use Rattle.dist_inquiry.specs.AnswerText.{IsRightBasis, setting_of}
 use Rattle.dist_inquiry.specs.Asking.{IsAt}
+use Rattle.dist_inquiry.specs.Inquiring.{MayInquire, course_of}
 use Rattle.dist_inquiry.specs.Inquiry.{AreAsked, Setting, Stops}
+use Rattle.dist_inquiry.specs.Written.{WrittenAnswers}
 use Rattle.dist_outside.specs.DeskView.{DeskView, FileGrew}
 use Rattle.dist_outside.specs.declared.limits.Limits.{Limits}
 use Rattle.dist_outside.specs.declared.trouble.WorkError.{WorkError}
-use Rattle.dist_repair.specs.Answered.{Asked, AsksAt, IsLower}
-use Rattle.dist_repair.specs.NotesPrivate.{AreNotesOf, AreWordsOf, NotesView, WordsView}
+use Rattle.dist_outside.specs.declared.trouble.WorkError.TheVariants.{NoMemory}
+use Rattle.dist_repair.specs.Answered.{Answers, Asked, AsksAt, IsLower}
+use Rattle.dist_repair.specs.NotesPrivate.{AreNotesOf, AreWordsOf, NotesView, WordsView, answer_of}
 use Rattle.dist_repair.specs.RepairFiles.{IsDecided, asked_by, repair_files}
 use Rattle.dist_repair.specs.Searched.{IsBegun}
+use Rattle.dist_repair.specs.declared.repair.Repair.{Repair}
 use Rattle.dist_space.specs.Space.{SpaceView}
 use Rattle.dist_sweep.specs.Asking.{AskerView}
 use Rattle.dist_repair_search.specs.QuestionOrder.{WasNotAsked, repair_asks}
@@ -107,3 +112,36 @@ abbrev pub SearchMore : SpaceView → WordsView → NotesView → NotesView → 
 SearchMore s w n m old new a b = (limits : Limits) (numbers : List ℕ) (basis : Inputs)
     → AreRight s limits numbers basis w → IsWrittenAt s limits numbers basis [] a n
     → IsSearched s limits numbers basis old new b m
+
+-- ---- the file
+
+-- Where the search may begin, what it leaves of the file is as it is to be; at Ok it is accepted with the answer that
+-- is noted then.
+abbrev pub WritesFile : SpaceView → WordsView → (n m : NotesView) → (numbers : List ℕ) → AskerView → (name : List ℕ)
+    → DeskView → DeskView → Result (Unit {0}) WorkError → Type 0
+WritesFile s w n m numbers a name old new result = (limits : Limits) (basis : Inputs)
+    → MayInquire (repair_files s) (λ ns. AreWordsOf s (asked_by ns) w × AreNotesOf s (asked_by ns) [] n) limits numbers
+    basis a
+    → WrittenAnswers (setting_at s limits numbers basis) (course_of (repair_files s) (repair_asks s) numbers)
+    (λ done text. IsAnswered (repair_files s) limits text numbers
+    (λ found. Answers s (asked_by numbers) found (answer_of m)))
+    name old new result
+
+-- or there was no memory, and nothing was done
+abbrev pub RunsSearch : SpaceView → WordsView → (n m : NotesView) → (numbers : List ℕ) → AskerView → (name : List ℕ)
+    → DeskView → DeskView → Result (Unit {0}) WorkError → Type 0
+RunsSearch s w n m numbers a name old new result = ((result ≡ Err NoMemory) × (new ≡ old))
+    ⊎ WritesFile s w n m numbers a name old new result
+
+-- The same of the answer, whatever the search kept.
+abbrev pub TellsAnswer : SpaceView → (numbers : List ℕ) → AskerView → (name : List ℕ) → DeskView → DeskView
+    → Result Repair WorkError → Type 0
+TellsAnswer s numbers a name old new result = ((result ≡ Err NoMemory) × (new ≡ old))
+    ⊎ ((limits : Limits) (basis : Inputs)
+    → ((w : WordsView) (n : NotesView) → AreWordsOf s (asked_by numbers) w → AreNotesOf s (asked_by numbers) [] n
+    → MayInquire (repair_files s) (λ ns. AreWordsOf s (asked_by ns) w × AreNotesOf s (asked_by ns) [] n) limits numbers
+    basis a)
+    → WrittenAnswers (setting_at s limits numbers basis) (course_of (repair_files s) (repair_asks s) numbers)
+    (λ repair text. IsAnswered (repair_files s) limits text numbers
+    (λ found. Answers s (asked_by numbers) found repair))
+    name old new result)

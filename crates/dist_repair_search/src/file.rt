@@ -1,9 +1,14 @@
 //! The file of a repair.
-ghost use Rattle.std.specs.Prelude.{◌≡◌, ◌<◌, ◌≤◌, All, IfOk, length};
+ghost use Rattle.std.specs.Prelude.{◌≡◌, ◌<◌, ◌≤◌, [], All, IfOk, length};
 ghost use Rattle.dist_base.specs.declared.TheConstants.{MAX_LIMIT};
 ghost use Rattle.dist_cert.specs.Form.{IsSmall};
 ghost use Rattle.dist_outside.specs.Files.{IsNotWriting};
+ghost use Rattle.dist_findings.specs.Start.{HasRightNumbers};
+ghost use Rattle.dist_inquiry.specs.StartLaws.{new_asker};
 ghost use Rattle.dist_repair.specs.InputsPrivate.{inputs_of};
+ghost use Rattle.dist_repair.specs.NotesPrivate.{AreNotesOf, AreWordsOf, WordsView, answer_of};
+ghost use Rattle.dist_repair.specs.RepairFiles.{asked_by, repair_files};
+ghost use Rattle.dist_repair_search.specs.SearchPrivate.{AreOver, RunsSearch, TellsAnswer, WritesFile};
 ghost use Rattle.dist_repair.specs.Verdicts.{AcceptedSays};
 ghost use Rattle.dist_repair.specs.declared.TheConstants.{MAX_MOST};
 ghost use Rattle.dist_subject.specs.Limited.{AreStated};
@@ -43,6 +48,110 @@ fn first_numbers(
     Vec::from_slice(alloc, &numbers)
 }
 
+/// A search behind a first line of these numbers, which has asked nothing.
+fn new_search<'a>(
+    alloc: Global,
+    space: &'a Space,
+    numbers: &[u32],
+) -> Result<RepairSearch<'a>, AllocError>
+    requires { HasRightNumbers (repair_files space.now) numbers.now }
+    ensures space { IfOk result (λ search. search.repairing.space.now ≡ space.now) }
+    ensures words { IfOk result (λ search. AreWordsOf space.now (asked_by numbers.now) search.words) }
+    ensures notes { IfOk result (λ search. AreNotesOf space.now (asked_by numbers.now) [] search.notes) }
+{
+    let repairing = Repairing { alloc, space };
+    let words = words_of(space, numbers);
+    let notes = repairing.begin(alloc, numbers)?;
+    Ok(RepairSearch {
+        repairing,
+        words,
+        notes,
+    })
+}
+
+/// Writes the file of a search.
+fn write_search<D: Desk>(
+    alloc: Global,
+    search: &mut RepairSearch<'_>,
+    inquirer: &mut Inquirer,
+    numbers: &[u32],
+    desk: &mut D,
+    name: &str,
+) -> Result<(), WorkError>
+    requires idle { IsNotWriting (D.view desk.old).mode }
+    requires limit { 1 ≤ inquirer.old.limit }
+    requires fits { AreOver inquirer.old.log.variables search.old.words }
+    requires nothing { inquirer.old.writer.written ≡ 0 }
+    ensures { WritesFile search.old.repairing.space.now search.old.words search.old.notes search.new.notes numbers.now inquirer.old name.now (D.view desk.old) (D.view desk.new) result }
+{
+    write_inquiry(alloc, search, inquirer, numbers, desk, name)
+}
+
+/// What a search has found.
+fn answer_of(search: RepairSearch<'_>) -> Repair
+    ensures { result ≡ answer_of search.entry.notes }
+{
+    let RepairSearch {
+        repairing,
+        words,
+        notes,
+    } = search;
+    drop(repairing);
+    drop(words);
+    notes.answer()
+}
+
+/// Asks over these clauses, and writes the file of a search.
+fn run_search<D: Desk>(
+    alloc: Global,
+    search: &mut RepairSearch<'_>,
+    set: ClauseSet,
+    numbers: &[u32],
+    desk: &mut D,
+    name: &str,
+    limit: u32,
+    limits: &Limits,
+) -> Result<(), WorkError>
+    requires idle { IsNotWriting (D.view desk.old).mode }
+    requires limit { 1 ≤ limit }
+    requires limits { AreStated limits.now }
+    requires fits { AreOver set.variables search.old.words }
+    ensures { RunsSearch search.old.repairing.space.now search.old.words search.old.notes search.new.notes numbers.now (new_asker set limit limits.now) name.now (D.view desk.old) (D.view desk.new) result }
+{
+    let mut inquirer = Inquirer::new(alloc, set, limit, limits)?;
+    let done = write_search(alloc, search, &mut inquirer, numbers, desk, name);
+    drop(inquirer);
+    done
+}
+
+/// Writes the file with a first line of these numbers, by these clauses, and tells the answer.
+fn answer_with<D: Desk>(
+    alloc: Global,
+    space: &Space,
+    set: ClauseSet,
+    numbers: &[u32],
+    desk: &mut D,
+    name: &str,
+    limit: u32,
+    limits: &Limits,
+) -> Result<Repair, WorkError>
+    requires idle { IsNotWriting (D.view desk.old).mode }
+    requires limit { 1 ≤ limit }
+    requires limits { AreStated limits.now }
+    requires numbers { HasRightNumbers (repair_files space.now) numbers.now }
+    requires words { (w : WordsView) → AreWordsOf space.now (asked_by numbers.now) w → AreOver set.variables w }
+    ensures { TellsAnswer space.now numbers.now (new_asker set limit limits.now) name.now (D.view desk.old) (D.view desk.new) result }
+{
+    let mut search = new_search(alloc, space, numbers)?;
+    match run_search(alloc, &mut search, set, numbers, desk, name, limit, limits) {
+        Ok(()) => Ok(answer_of(search)),
+        Err(error) => {
+            drop(search);
+            Err(error)
+        }
+    }
+}
+
 /// Writes a file on how many clusters must move so that a package can be installed, to the file of that name, and tells the
 /// answer. The package is numbered from 0; clusters are counted up to a most; so many derived lines leave a question undecided.
 ///
@@ -73,15 +182,5 @@ pub fn repair<D: Desk>(
     let _variables = space.variables();
     let _count = set.len();
     let numbers = first_numbers(alloc, space, &set, package, most, limit)?;
-    let repairing = Repairing { alloc, space };
-    let words = words_of(space, &numbers);
-    let notes = repairing.begin(alloc, &numbers)?;
-    let mut inquirer = Inquirer::new(alloc, set, limit, limits)?;
-    let mut search = RepairSearch {
-        repairing,
-        words,
-        notes,
-    };
-    write_inquiry(alloc, &mut search, &mut inquirer, &numbers, desk, name)?;
-    Ok(search.notes.answer())
+    answer_with(alloc, space, set, &numbers, desk, name, limit, limits)
 }

@@ -10,8 +10,8 @@ returns-clause-next c = λ s clauses space are asked limit found f j n short sou
       begun-more s asked found f begun,
       next-decides s asked space clauses (space-over s space clauses are) one.element one.is
           (c.models_tell_of_moves.ensures s clauses space are)
-          (c.counters_count_moves.ensures.moves s clauses space are) (c.counters_count_moves.ensures.counted s clauses asked.most space are) limit found j begun low
-          upto f n sound noted at,
+          (c.counters_count_moves.ensures.moves s clauses space are) (c.counters_count_moves.ensures.counted s clauses asked.most space are)
+          limit found j begun low upto f n sound noted at,
     )
 
 pub returns-clause-last : goal.returns-clause-last

@@ -1,10 +1,7 @@
-use Rattle.std.proofs.Common.{◌≡◌, ◌+◌, ◌∙◌, ℕ, List, Result, IfErr, arith, sym, subst}
-use Rattle.dist_findings.specs.declared.finding.Finding.{Finding}
+use Rattle.std.proofs.Common.{◌∙◌, ℕ, Result, IfErr, arith, sym, subst}
 use Rattle.dist_outside.specs.DeskView.{DeskView}
 use Rattle.dist_outside.specs.Files.{IsWriting}
 use Rattle.dist_outside.specs.declared.trouble.WorkError.{WorkError}
-use Rattle.dist_repair.specs.NotesPrivate.{AreNotesOf}
-use Rattle.dist_repair.specs.RepairFiles.{IsDecided, asked_by}
 use Rattle.std.proofs.lemmas.Bool.{false≢true}
 use Rattle.dist_sweep.specs.ScriptLaws.{by-exit, two-grow}
 use Rattle.dist_repair_search.specs.SearchPrivate.{AloneStops, AreOver}
