@@ -64,6 +64,19 @@ answers-large r number limit limits name d WriteFault idle passes = absurd passe
 
 -- ---- what is written
 
+-- numbers of the first line
+back-one : (number : ℕ) → number ≡ number + 1 - 1
+back-one number = omega arith
+
+all-variables : (variables packages relations : ℕ) → variables ≡ packages + relations → packages + (variables - packages) ≡ variables
+all-variables variables packages relations split = omega (arith, split)
+
+above-zero : (number : ℕ) → 1 ≤ number + 1
+above-zero number = omega arith
+
+within-one : (number packages : ℕ) → number < packages → number + 1 ≤ packages
+within-one number packages short = omega (arith, short)
+
 -- what the set holds
 abbrev pub basis_of : ClauseList → Inputs
 basis_of set = record { variables = set.variables; clauses = set.clauses }
@@ -80,10 +93,9 @@ module _ (r : PackageList) (number limit : ℕ) (limits : Limits) (set : ClauseL
       → MayInquire (explanation_files r) (λ ns. (asked ≡ asked_by ns) × AreNotesOf (asked_by ns) [] notes) limits (numbers_of r number limit set)
       (basis_of set) a
   may-inquire a asked notes is over from upto short small are noted =
-      let split : set.variables ≡ length r.packages + length inputs.is_basis.clauses = inputs.is_basis.variables in
-      let all : length r.packages + (set.variables - length r.packages) ≡ set.variables = omega (arith, split) in
-      let above : 1 ≤ number + 1 = omega arith in
-      let within : number + 1 ≤ length r.packages = omega (arith, short) in
+      let all = all-variables set.variables (length r.packages) (length inputs.is_basis.clauses) inputs.is_basis.variables in
+      let above = above-zero number in
+      let within = within-one number (length r.packages) short in
       subst (λ (v : AskerView). MayInquire (explanation_files r) (λ ns. (asked ≡ asked_by ns) × AreNotesOf (asked_by ns) [] notes) limits
       (numbers_of r number limit set) (basis_of set) v) (sym is) (record {
         right = record {
@@ -130,7 +142,8 @@ module _ (r : PackageList) (number limit : ℕ) (limits : Limits) (set : ClauseL
         → ExplainAnswers r number limit limits name old new (Ok explained)
     answers-whole notes explained tells x =
         let done = x.3 in
-        let back : number ≡ number + 1 - 1 = omega arith in (
+        let back = back-one number in
+        (
           x.0,
           x.1,
           (

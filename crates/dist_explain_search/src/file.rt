@@ -4,13 +4,10 @@ ghost use Rattle.dist_base.specs.declared.TheConstants.{MAX_LIMIT};
 ghost use Rattle.dist_outside.specs.Files.{IsNotWriting};
 ghost use Rattle.dist_repo.specs.Size.{IsWithinSize};
 ghost use Rattle.dist_subject.specs.Limited.{AreStated};
-ghost use Rattle.dist_explain.specs.Verdicts.{AcceptedMeans};
 ghost use Rattle.dist_explain_search.specs.ExplainAnswers.{ExplainAnswers, TellsFirst};
 
 use crate::search::ExplainSearch;
-use dist_explain::{
-    Asked, Explained, Explaining, Notes, accepted_explanations_hold, selected_inputs,
-};
+use dist_explain::{Asked, Explained, Explaining, Notes, selected_inputs};
 use dist_inquiry::{Inquirer, write_inquiry};
 use dist_outside::{Desk, Limits, WorkError};
 use dist_repo::Repository;
@@ -43,9 +40,7 @@ pub fn explain<D: Desk>(
     requires limits { AreStated limits.now }
     ensures answers { ExplainAnswers repo.now «package» limit limits.now name.now (D.view desk.old) (D.view desk.new) result }
     ensures first { TellsFirst repo.now limits.now result }
-    ensures means { IfOk result (AcceptedMeans repo.now (record { limit = limit; «package» = «package» })) }
 {
-    accepted_explanations_hold();
     let set = selected_inputs(alloc, repo, limits)?;
     let packages = repo.len();
     let variables = set.variables();
