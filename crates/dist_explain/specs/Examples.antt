@@ -1,4 +1,5 @@
--- A worked example: a depends on b, and b conflicts with a. Its two relations explain a together, and the first is needed.
+-- A worked example: a depends on b, and b conflicts with a. Its two relations explain a together, and the first is
+-- needed.
 use Rattle.std.specs.Prelude.{◌≡◌, ◌≢◌, ◌⊎◌, ◌<◌, ℕ, zero, suc, List, [], ◌∷◌, Contains, codes, slice_index_or, refl}
 use Rattle.std.proofs.Common.{ap, arith, inl, inr, lit<, sym, subst}
 use Rattle.std.proofs.lemmas.List.Elements.{All-contains, All-cons, All-nil}

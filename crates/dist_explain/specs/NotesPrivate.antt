@@ -49,7 +49,8 @@ pub record MarksOpen (others : List ℕ) (old new : LastView) : Type 0 where
 
 -- later findings show that one of some relations is needed, or leave it open
 abbrev pub IsMarkedIn : Asked → (numbers : List ℕ) → (later : List Finding) → (one : ℕ) → Type 0
-IsMarkedIn asked numbers later one = Any (ShowsNeeded asked numbers one) later ⊎ Any (LeavesOpen asked numbers one) later
+IsMarkedIn asked numbers later one =
+    Any (ShowsNeeded asked numbers one) later ⊎ Any (LeavesOpen asked numbers one) later
 
 -- What is known of the relations is what these later findings say.
 pub record AreMarks (asked : Asked) (later : List Finding) (last : LastView) : Type 0 where

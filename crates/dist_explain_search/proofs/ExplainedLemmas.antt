@@ -142,8 +142,7 @@ module _ (r : PackageList) (number limit : ℕ) (limits : Limits) (set : ClauseL
         → ExplainAnswers r number limit limits name old new (Ok explained)
     answers-whole notes explained tells x =
         let done = x.3 in
-        let back = back-one number in
-        (
+        let back = back-one number in (
           x.0,
           x.1,
           (

@@ -47,7 +47,8 @@ returns-clause-ok g c =
     let file = g.S.Inquiring.file c.args.search.now in
     on-both c.finish.result
     (λ last done. all-whole c.forms_are_clear.ensures c.file_grows.ensures.twice file c.requires.front (g.S.Inquiring.keeps c.args.search.now)
-    (g.S.Inquiring.asks c.args.search.now) (g.S.Inquiring.told c.args.search.now c.settle.new.self) c.args.inquirer.now c.put_first.new.self c.settle.new.inquirer
+    (g.S.Inquiring.asks c.args.search.now) (g.S.Inquiring.told c.args.search.now c.settle.new.self) c.args.inquirer.now c.put_first.new.self
+    c.settle.new.inquirer
     c.args.line.now old mid late new
     c.in_ok-put_first.ensures.grew c.put_first.ensures.rest c.in_ok-put_first.ensures.ok c.in_ok-settle.ensures.ok last done)
     c.finish.ensures.grew c.finish.ensures.ok

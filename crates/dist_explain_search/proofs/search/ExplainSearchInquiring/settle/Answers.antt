@@ -19,7 +19,8 @@ use Rattle.dist_explain_search.specs.ExplainOrder.{IsNextQuestion}
 use Rattle.dist_explain_search.specs.SearchPrivate.{AreNumbers, Goes, GoesNot, HasJust, IsAnsweredAt, Marks, explain_noting, question_of}
 use Rattle.dist_explain_search.proofs.GoingLemmas.{goes-join, goes-stop, stops-memory, stops-question}
 use Rattle.dist_explain_search.proofs.QuestionLemmas.{all-are}
-use Rattle.dist_explain_search.proofs.SettledLemmas.{IsStart, all_of, exit-settle, first-found, first-next, first-refuted, first-undecided, settle-stops-by, settled-by}
+use Rattle.dist_explain_search.proofs.SettledLemmas.{IsStart, all_of, exit-settle, first-found, first-next, first-refuted}
+use Rattle.dist_explain_search.proofs.SettledLemmas.{first-undecided, settle-stops-by, settled-by}
 use Rattle.dist_explain_search.proofs.search.ExplainSearchInquiring.settle.Goals as goal
 
 -- what is told of the words that were passed
