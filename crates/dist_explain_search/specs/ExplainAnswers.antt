@@ -1,8 +1,8 @@
 -- What the search for an explanation answers, when, and what it leaves of the file.
 use Rattle.std.specs.Prelude.{◌≡◌, ◌⊎◌, ℕ, ◌+◌, ◌-◌, List, [], ◌∷◌, Result, Ok, Err, length}
 use Rattle.dist_outside.specs.Counts.{Rose}
-use Rattle.dist_outside.specs.DeskView.{DeskView, Holds, WriteCounts}
-use Rattle.dist_outside.specs.Files.{Idle, IsNotWriting, with_file}
+use Rattle.dist_outside.specs.DeskView.{DeskView, Holds}
+use Rattle.dist_outside.specs.Files.{Idle}
 use Rattle.dist_outside.specs.declared.limits.Limits.{Limits}
 use Rattle.dist_outside.specs.declared.trouble.What.{What}
 use Rattle.dist_outside.specs.declared.trouble.What.TheVariants.{Variables, Clauses, Literals}
@@ -16,7 +16,7 @@ use Rattle.dist_findings.specs.AnswerFiles.{Inputs}
 use Rattle.dist_inquiry.specs.AnswerText.{setting_of}
 use Rattle.dist_inquiry.specs.Inquiring.{course_of}
 use Rattle.dist_inquiry.specs.Inquiry.{Setting}
-use Rattle.dist_inquiry.specs.Written.{Course, IsCutText, IsFull, IsWholeText}
+use Rattle.dist_inquiry.specs.Written.{Course, IsFull, IsWholeText, LeavesCut}
 use Rattle.dist_explain_search.specs.ExplainOrder.{IsNextQuestion}
 
 -- the numbers of the first line of a file on the package of a number, from 0
@@ -39,16 +39,6 @@ abbrev pub OfExplain : PackageList → (number limit : ℕ) → Limits → (Sett
 OfExplain r number limit limits P = (basis : Inputs) × IsSelectedOf r basis
     × P (explain_setting r number limit limits basis) (explain_course r number limit basis)
 
--- The desk writes no longer. The file is as before, or holds what may be written so far, perhaps with a front of one
--- line more behind it. All other files are as before.
-pub record LeavesPart (r : PackageList) (number limit : ℕ) (limits : Limits) (name : List ℕ) (old new : DeskView)
-    : Type 0 where
-  pub files : (new.files ≡ old.files) ⊎ ((text : List ℕ)
-      × OfExplain r number limit limits (λ g course. IsCutText g course text)
-      × (new.files ≡ with_file old.files name text))
-  pub not_writing : IsNotWriting new.mode
-  pub counts : WriteCounts old new
-
 -- When each answer is given, and what it leaves of the file. At Ok the file is whole, and accepted with this answer for
 -- the package and the limit. Want of memory may come in place of any answer.
 abbrev pub ExplainAnswers : PackageList → (number limit : ℕ) → Limits → (name : List ℕ) → DeskView → DeskView
@@ -64,8 +54,9 @@ ExplainAnswers r number limit limits name old new (Err (TooLarge Literals)) =
 ExplainAnswers r number limit limits name old new (Err (TooLarge what)) = (text : List ℕ) × Holds name text Idle old new
     × OfExplain r number limit limits (λ g course. IsFull g course what text)
 ExplainAnswers r number limit limits name old new (Err WriteFault) = Rose old.write_faults new.write_faults
-    × LeavesPart r number limit limits name old new
-ExplainAnswers r number limit limits name old new (Err NoMemory) = LeavesPart r number limit limits name old new
+    × OfExplain r number limit limits (λ g course. LeavesCut g course name old new)
+ExplainAnswers r number limit limits name old new (Err NoMemory) = (new ≡ old)
+    ⊎ OfExplain r number limit limits (λ g course. LeavesCut g course name old new)
 ExplainAnswers r number limit limits name old new (Err ReadFault) = ⊥
 
 -- The number that is passed first is told, but for want of memory.

@@ -1,6 +1,6 @@
 -- Serves private contracts: where the search stands, and what a question more comes to.
 use Rattle.std.specs.Prelude.{◌≡◌, ◌==◌, ◌⊎◌, ℕ, ◌+◌, ◌≤◌, List, [], ◌∷◌, ◌++◌, All, Any, Contains, filter}
-use Rattle.std.specs.Prelude.{length, map, not}
+use Rattle.std.specs.Prelude.{length, map, not, Result, Err}
 use Rattle.dist_outside.specs.DeskView.{DeskView, FileGrew}
 use Rattle.dist_outside.specs.declared.trouble.WorkError.{WorkError}
 use Rattle.dist_cert.specs.ClaimRules.{yes}
@@ -9,18 +9,26 @@ use Rattle.dist_cert.specs.Form.{Word}
 use Rattle.dist_cert.specs.Rising.{AreRising}
 use Rattle.dist_cert.specs.declared.records.CertRecord.{CertRecord}
 use Rattle.dist_cert.specs.declared.records.CertRecord.TheVariants.{Question, Refuted}
-use Rattle.dist_explain.specs.Answered.{AreAllBut, AreAnswered, AreLast, IsOfRelation, Selects}
-use Rattle.dist_explain.specs.ExplanationFiles.{asked_by}
+use Rattle.dist_explain.specs.Answered.{AreAllBut, AreAnswered, AreLast, IsOfRelation, Selects, Answers}
+use Rattle.dist_explain.specs.ExplanationFiles.{asked_by, explanation_files}
 use Rattle.dist_explain.specs.NotesPrivate.{AreNotesOf, IsMarkedIn, NotesView}
 use Rattle.dist_explain.specs.declared.asked.Asked.{Asked}
 use Rattle.dist_findings.specs.Findings.{findings}
 use Rattle.dist_findings.specs.declared.finding.Finding.{Finding}
 use Rattle.dist_solver.specs.declared.answers.Answer.TheVariants as answers
 use Rattle.dist_sweep.specs.Asking.{AskerView}
-use Rattle.dist_inquiry.specs.AnswerText.{Noting}
+use Rattle.dist_inquiry.specs.AnswerText.{Noting, setting_of}
 use Rattle.dist_inquiry.specs.Asking.{IsAt, Says}
 use Rattle.dist_inquiry.specs.Inquiry.{AreAsked, Setting, Stops}
 use Rattle.dist_explain_search.specs.ExplainOrder.{IsNextQuestion}
+use Rattle.dist_explain.specs.declared.explained.Explained.{Explained}
+use Rattle.dist_findings.specs.AnswerFiles.{Inputs}
+use Rattle.dist_findings.specs.Answers.{IsAnswered}
+use Rattle.dist_inquiry.specs.Inquiring.{MayInquire, course_of}
+use Rattle.dist_inquiry.specs.Written.{WrittenAnswers}
+use Rattle.dist_outside.specs.declared.limits.Limits.{Limits}
+use Rattle.dist_outside.specs.declared.trouble.WorkError.TheVariants.{NoMemory}
+use Rattle.dist_repo.specs.PackageList.{PackageList}
 
 -- ---- questions
 
@@ -107,3 +115,46 @@ abbrev pub GoesNot : Asked → (From : Setting → List CertRecord → Type 0) �
     → WorkError → Type 0
 GoesNot asked From old new a notes error = (g : Setting) (lines : List CertRecord)
     → IsSearching g asked lines a notes → From g lines → Stops g (IsNextQuestion asked) lines old new error
+
+-- ---- the file
+
+-- what an answer tells of notes: what the findings answer of which they are
+abbrev pub TellsOf : NotesView → Explained → Type 0
+TellsOf notes explained = (asked : Asked) (found : List Finding) → AreNotesOf asked found notes
+    → (¬ ¬ AreAnswered asked found) → Answers asked found explained
+
+-- the search may begin behind a first line of these numbers, with these notes
+abbrev pub MayBegin : PackageList → Asked → NotesView → Limits → (numbers : List ℕ) → Inputs → AskerView → Type 0
+MayBegin r asked n limits numbers basis a = MayInquire (explanation_files r)
+    (λ ns. (asked ≡ asked_by ns) × AreNotesOf (asked_by ns) [] n) limits numbers basis a
+
+-- what is left of the file; at Ok it is accepted, and this holds of what its lines find
+abbrev pub Leaves : {X : Type 0} → PackageList → Limits → (numbers : List ℕ) → Inputs
+    → (X → List Finding → Type 0) → (name : List ℕ) → DeskView → DeskView → Result X WorkError → Type 0
+Leaves r limits numbers basis Finds name old new result = WrittenAnswers
+    (setting_of (explanation_files r) limits basis numbers)
+    (course_of (explanation_files r) (λ ns. IsNextQuestion (asked_by ns)) numbers)
+    (λ done text. IsAnswered (explanation_files r) limits text numbers (Finds done)) name old new result
+
+-- Where the search may begin, what it leaves of the file is as it is to be; at Ok it is accepted, and what its lines
+-- find is noted and decides the answer.
+abbrev pub WritesFile : PackageList → Asked → (n m : NotesView) → (numbers : List ℕ) → AskerView → (name : List ℕ)
+    → DeskView → DeskView → Result (Unit {0}) WorkError → Type 0
+WritesFile r asked n m numbers a name old new result = (limits : Limits) (basis : Inputs)
+    → MayBegin r asked n limits numbers basis a
+    → Leaves r limits numbers basis (λ done found. AreNotesOf (asked_by numbers) found m
+    × AreAnswered (asked_by numbers) found) name old new result
+
+-- or there was no memory, and nothing was done
+abbrev pub RunsSearch : PackageList → Asked → (n m : NotesView) → (numbers : List ℕ) → AskerView → (name : List ℕ)
+    → DeskView → DeskView → Result (Unit {0}) WorkError → Type 0
+RunsSearch r asked n m numbers a name old new result = ((result ≡ Err NoMemory) × (new ≡ old))
+    ⊎ WritesFile r asked n m numbers a name old new result
+
+-- The same of the answer, whatever the search kept.
+abbrev pub TellsAnswer : PackageList → Asked → (numbers : List ℕ) → AskerView → (name : List ℕ) → DeskView → DeskView
+    → Result Explained WorkError → Type 0
+TellsAnswer r asked numbers a name old new result = ((result ≡ Err NoMemory) × (new ≡ old))
+    ⊎ ((limits : Limits) (basis : Inputs)
+    → ((n : NotesView) → AreNotesOf asked [] n → MayBegin r asked n limits numbers basis a)
+    → Leaves r limits numbers basis (λ explained found. Answers (asked_by numbers) found explained) name old new result)
