@@ -12,6 +12,8 @@ enum Told {
     Health,
     Classes,
     Check,
+    CheckExplain,
+    CheckRepair,
     Steps,
     Follow,
     Try(u32, u32),
@@ -48,6 +50,12 @@ fn read_of(command: &Command<'_>) -> Option<Told> {
         Command::Health(files) => told_if(are_both(files.packages, files.list), Told::Health),
         Command::Classes(file) => told_if(*file == "f", Told::Classes),
         Command::Check(files) => told_if(are_both(files.packages, files.cert), Told::Check),
+        Command::CheckExplain(files) => {
+            told_if(are_both(files.packages, files.cert), Told::CheckExplain)
+        }
+        Command::CheckRepair(files) => {
+            told_if(are_both(files.packages, files.cert), Told::CheckRepair)
+        }
         Command::Steps(files) => told_if(are_both(files.packages, files.later), Told::Steps),
         Command::Follow(files) => told_if(are_three(files), Told::Follow),
         Command::Try(sizes) => Some(Told::Try(sizes.size, sizes.seed)),
@@ -108,6 +116,8 @@ const COMMANDS: &[Row] = &[
         Told::Sweep(CertKind::Challenged, 3, true),
     ),
     (&["health", "f", "g"], Told::Health),
+    (&["check-explain", "f", "g"], Told::CheckExplain),
+    (&["check-repair", "f", "g"], Told::CheckRepair),
     (&["classes", "f"], Told::Classes),
     (&["check", "f", "g"], Told::Check),
     (&["steps", "f", "g"], Told::Steps),
