@@ -8,14 +8,22 @@ use Rattle.dist_package.specs.declared.error.PackagesError.{PackagesError}
 use Rattle.dist_package.specs.declared.error.PackagesError.TheVariants as packages_error
 use Rattle.dist_repo.specs.PackageList.{PackageList}
 use Rattle.dist_repo.specs.declared.package.Package.{Package}
-use Rattle.dist_words.specs.CommandLine.{CommandLine, Health, Classes, Sweep, Check, CheckExplain, CheckRepair, Try, Steps, Follow}
+use Rattle.dist_words.specs.CommandLine.{CommandLine, Health, Classes, Sweep, Check, CheckExplain, Explain, CheckRepair}
+use Rattle.dist_words.specs.CommandLine.{Repair, Try, Steps, Follow}
 use Rattle.dist_words.specs.Table.{command_of}
 use Rattle.dist_outside.specs.declared.trouble.What.{What}
+use Rattle.dist_outside.specs.declared.trouble.What.TheVariants as what
 use Rattle.dist_repo.specs.Order.{IsInOrder, IsLatestOf}
 use Rattle.dist_cert.specs.declared.records.CertKind.{CertKind}
 use Rattle.dist_space.specs.Space.{IsSpace, SpaceView}
 use Rattle.dist_space.specs.SpaceOf.{IsSpaceOf}
 use Rattle.dist_subject.specs.Limited.{PassesFirst}
+use Rattle.dist_clause.specs.Formula.{Literal}
+use Rattle.dist_space_clauses.specs.SpaceClauses.{AreSpaceClauses}
+use Rattle.dist_repair.specs.Counters.{PassesCounted}
+use Rattle.dist_repair.specs.RepairFiles.{PassesWith}
+use Rattle.dist_explain.specs.ExplanationFiles.{PassesFirst as ExplainPasses}
+use Rattle.dist_list.specs.NamedPackage.{IsNamed}
 use Rattle.dist_journal.specs.OneEnd.{HasOneEnd}
 use Rattle.dist_journal.specs.declared.fault.FollowError.{FollowError}
 use Rattle.dist_journal.specs.declared.fault.FollowError.TheVariants as follow_error
@@ -24,17 +32,21 @@ use Rattle.dist_app.specs.CheckExplain.{ExplanationReads, ExplanationStage, Tell
 use Rattle.dist_app.specs.CheckRepair.{RepairReads, RepairStage, TellsRepair}
 use Rattle.dist_app.specs.Classes.{TellsClasses}
 use Rattle.dist_app.specs.Command.{CommandDecides, CommandRefuses, CommandIsGivenUp}
+use Rattle.dist_app.specs.Explain.{ExplainStages, Explains}
 use Rattle.dist_app.specs.Follow.{IsEndOfJournal, JournalStage, TellsFollowed}
 use Rattle.dist_app.specs.Health.{ListStage, Judges}
+use Rattle.dist_app.specs.NamedStage.{NamedStage}
 use Rattle.dist_app.specs.PackagesStage.{PackagesStage}
+use Rattle.dist_app.specs.Repair.{NewestStage, PlainSpaceStage, RepairStages, Repairs}
 use Rattle.dist_app.specs.RepositoryStage.{IsEndOf, RepositoryStage}
 use Rattle.dist_app.specs.Run.{Decides, Refuses, IsRunGivenUp}
 use Rattle.dist_app.specs.Stages.{Ending, Goes, Ends, IsDetermined, Excludes, refused}
 use Rattle.dist_app.specs.SpaceStage.{IsSpaceOfFile, SpaceStage}
-use Rattle.dist_app.specs.Steps.{TellsLater}
+use Rattle.dist_app.specs.Steps.{IsNewestIn, TellsLater}
 use Rattle.dist_app.specs.Sweeps.{InputsStage, SweepStages, Sweeps}
 use Rattle.dist_app.specs.TextStage.{TextStage}
 use Rattle.dist_app.specs.Try.{ArchiveStage}
+use Rattle.dist_app.specs.WrittenFile.{NumbersStage}
 use Rattle.dist_generate.specs.Generator.{generated}
 use Rattle.dist_app.specs.declared.refusal.Refusal.TheVariants as refusal
 use Rattle.dist_app.proofs.Judgements.{check_determined}
@@ -66,6 +78,15 @@ abbrev pub HaveOneNumber : Type 0
 HaveOneNumber = (r : PackageList) (kind : CertKind) (essential : Bool) (limits : Limits) (what other : What) → IsInOrder r.packages
     → PassesFirst r kind essential limits what → PassesFirst r kind essential limits other → other ≡ what
 
+abbrev pub HaveOneExplainNumber : Type 0
+HaveOneExplainNumber = (r : PackageList) (limits : Limits) (what other : What) → IsInOrder r.packages → ExplainPasses r limits what
+    → ExplainPasses r limits other → other ≡ what
+
+-- a text names one package
+abbrev pub HaveOneName : Type 0
+HaveOneName = (packages : List Package) (text : List ℕ) (number other : ℕ) → IsInOrder packages → IsNamed packages text number
+    → IsNamed packages text other → other ≡ number
+
 -- a file has one space at a mode
 abbrev pub HaveOneSpace : Type 0
 HaveOneSpace = (r : PackageList) (essential : Bool) (s other : SpaceView) → IsSpaceOfFile essential r s → IsSpaceOfFile essential r other → other ≡ s
@@ -77,20 +98,36 @@ one-space newest spaces r essential s other is is' =
     spaces s.repository essential s other is.1
     (subst (λ (x : PackageList). IsSpaceOf x essential other) (newest r s.repository other.repository is.0 is'.0) is'.1)
 
+-- packages have one space at a mode, and a space one list of clauses
+abbrev pub HavePlainSpace : Type 0
+HavePlainSpace = (r : PackageList) (essential : Bool) (s other : SpaceView) → IsSpaceOf r essential s → IsSpaceOf r essential other → other ≡ s
+
+abbrev pub HaveOneClauses : Type 0
+HaveOneClauses = (s : SpaceView) (clauses other : List (List Literal)) → AreSpaceClauses s clauses → AreSpaceClauses s other → other ≡ clauses
+
+-- each file has its newest versions once
+abbrev pub HaveOneNewest : Type 0
+HaveOneNewest = (r latest other : PackageList) → IsLatestOf r latest → IsLatestOf r other → other ≡ latest
+
 -- a journal has one end
 abbrev pub HaveOneEnd : Type 0
 HaveOneEnd = (s : SpaceView) (limit : ℕ) (journal : List ℕ) (old : List Package) → IsSpace s → HasOneEnd s limit journal old
 
 -- each Packages text has one repository or one error, each LIST one set or one first bad line, each CERT one answer, as a certificate and as a file
--- of an explanation or of a repair, and of what a sweep is judged by one number is passed first; each file has one space at a mode, and each journal one end
+-- of an explanation, and of what a sweep is judged by one number is passed first; each file has one space at a mode, and each journal one end
 pub record AreExact : Type 0 where
   pub packages : (text : List ℕ) (limit : ℕ) → HasOneAnswer text limit
   pub lists : (packages : List Package) (text : List ℕ) → ListHasOneAnswer packages text
   pub certificates : HaveOneAnswer
   pub explanations : HaveOneExplanation
-  pub repairs : HaveOneRepair
   pub numbers : HaveOneNumber
+  pub explain_numbers : HaveOneExplainNumber
+  pub names : HaveOneName
   pub spaces : HaveOneSpace
+  pub newest : HaveOneNewest
+  pub space_of : HavePlainSpace
+  pub clauses : HaveOneClauses
+  pub repairs : HaveOneRepair
   pub journals : HaveOneEnd
 
 repository_determined : AreExact → (files : Option Files) (stanzas : ℕ) (text : List ℕ) → IsDetermined (RepositoryStage files stanzas text)
@@ -137,13 +174,19 @@ packages_determined exact files limits name (Ends e) (Ends o) (inr (t, f, g)) (i
     repository_determined exact (Some files) limits.stanzas t (Ends e) (Ends o) g
     (subst (λ (x : List ℕ). RepositoryStage (Some files) limits.stanzas x (Ends o)) same k)
 
+-- where one number is passed first
+pub numbers_determined : (Passes : What → Type 0) → ((number other : What) → Passes number → Passes other → other ≡ number) → (files : Option Files)
+    → IsDetermined (NumbersStage Passes files)
+numbers_determined Passes one files (Goes a) (Goes b) f g = refl
+numbers_determined Passes one files (Goes a) (Ends e) none (number, passes, is) = absurd (none number passes)
+numbers_determined Passes one files (Ends e) (Goes b) (number, passes, is) none = absurd (none number passes)
+numbers_determined Passes one files (Ends e) (Ends o) (number, passes, is) (other, passes', is') =
+    ap Ends (is' ∙ ap (λ (n : What). refused files (refusal.TooLarge n)) (one number other passes passes') ∙ sym is)
+
 pub inputs_determined : HaveOneNumber → (files : Option Files) (limits : Limits) (kind : CertKind) (essential : Bool) (r : PackageList)
     → IsInOrder r.packages → IsDetermined (InputsStage files limits kind essential r)
-inputs_determined one files limits kind essential r order (Goes a) (Goes b) f g = refl
-inputs_determined one files limits kind essential r order (Goes a) (Ends e) none (number, passes, is) = absurd (none number passes)
-inputs_determined one files limits kind essential r order (Ends e) (Goes b) (number, passes, is) none = absurd (none number passes)
-inputs_determined one files limits kind essential r order (Ends e) (Ends o) (number, passes, is) (other, passes', is') =
-    ap Ends (is' ∙ ap (λ (n : What). refused files (refusal.TooLarge n)) (one r kind essential limits number other order passes passes') ∙ sym is)
+inputs_determined one files limits kind essential r order =
+    numbers_determined (PassesFirst r kind essential limits) (λ number other. one r kind essential limits number other order) files
 
 -- a space that keeps its number passes none
 space_kept : HaveOneSpace → (limits : Limits) (essential : Bool) (r : PackageList) (s other : SpaceView) → IsSpaceOfFile essential r s
@@ -216,9 +259,100 @@ explanation_determined : HaveOneExplanation → (files : Files) (limits : Limits
 explanation_determined one files limits cert r order =
     check_determined (ExplanationReads r limits) (explanations_once one r limits order) files cert
 
+-- ---- the package that is named
+
+pub named_determined : HaveOneName → (files : Option Files) (packages : List Package) (text : List ℕ) → IsInOrder packages
+    → IsDetermined (NamedStage files packages text)
+named_determined one files packages text order (Goes a) (Goes b) f g = ap Goes (one packages text a b order f g)
+named_determined one files packages text order (Goes a) (Ends e) f (none, is) = absurd (none a f)
+named_determined one files packages text order (Ends e) (Goes b) (none, is) g = absurd (none b g)
+named_determined one files packages text order (Ends e) (Ends o) (none, is) (none', is') = ap Ends (is' ∙ sym is)
+
+explain_excludes : AreExact → (files : Files) (limits : Limits) (packages named : List ℕ) (Last : PackageList → ℕ → Ending → Type 0)
+    → Excludes (ExplainStages (Some files) limits packages named (λ r number ending. ⊥)) (ExplainStages (Some files) limits packages named Last)
+explain_excludes exact files limits packages named Last =
+    then_excludes (PackagesStage (Some files) limits packages) _ _ (packages_determined exact files limits packages) (λ r goes.
+    then_excludes (NamedStage (Some files) r.packages named) _ _
+    (named_determined exact.names (Some files) r.packages named (in_order (Some files) limits packages r goes)) (λ number is_named.
+    then_excludes (NumbersStage (ExplainPasses r limits) (Some files)) _ _
+    (numbers_determined (ExplainPasses r limits) (λ what other. exact.explain_numbers r limits what other (in_order (Some files) limits packages r goes))
+    (Some files))
+    (λ _ kept. nothing_excludes (Last r number))))
+
+-- ---- repairs
+
 pub repair_determined : HaveOneRepair → (files : Files) (limits : Limits) (cert : List ℕ) (s : SpaceView)
     → IsDetermined (RepairStage (Some files) limits cert s)
 repair_determined one files limits cert s = check_determined (RepairReads s limits) (repairs_once one s limits) files cert
+
+pub newest_determined : AreExact → (files : Files) (limits : Limits) (packages : List ℕ) → IsDetermined (NewestStage (Some files) limits packages)
+newest_determined exact files limits packages (Goes a) (Goes b) (r, read, latest) (r', read', latest') =
+    let same : r' ≡ r = same_value r r' (packages_determined exact files limits packages (Goes r) (Goes r') read read') in
+    ap Goes (exact.newest r a b latest (subst (λ (x : PackageList). IsLatestOf x b) same latest'))
+newest_determined exact files limits packages (Goes a) (Ends e) (r, read, latest) ends =
+    absurd (apart e r (packages_determined exact files limits packages (Goes r) (Ends e) read ends))
+newest_determined exact files limits packages (Ends e) (Goes b) ends (r, read, latest) =
+    absurd (apart e r (packages_determined exact files limits packages (Goes r) (Ends e) read ends))
+newest_determined exact files limits packages (Ends e) (Ends o) ends ends' =
+    ap Ends (same_ending o e (packages_determined exact files limits packages (Ends e) (Ends o) ends ends'))
+
+-- a plain space that keeps its number passes none
+plain_kept : HavePlainSpace → (limits : Limits) (newest : PackageList) (s other : SpaceView) → IsSpaceOf newest false s
+    → length s.meanings ≤ limits.variables → IsSpaceOf newest false other → ¬ (limits.variables < length other.meanings)
+plain_kept one limits newest s other is within also more =
+    let same = one newest false s other is also in
+    omega (arith, ap (λ (x : SpaceView). length x.meanings) same, within, more)
+
+pub plain_determined : HavePlainSpace → (files : Option Files) (limits : Limits) (newest : PackageList)
+    → IsDetermined (PlainSpaceStage files limits newest)
+plain_determined one files limits newest (Goes a) (Goes b) (is, within) (is', within') = ap Goes (one newest false a b is is')
+plain_determined one files limits newest (Goes a) (Ends e) (is, within) ((space, of, more), told) =
+    absurd (plain_kept one limits newest a space is within of more)
+plain_determined one files limits newest (Ends e) (Goes b) ((space, of, more), told) (is, within) =
+    absurd (plain_kept one limits newest b space is within of more)
+plain_determined one files limits newest (Ends e) (Ends o) (more, is) (more', is') = ap Ends (is' ∙ sym is)
+
+-- one number is passed first with a counter
+counted_one : HaveOneClauses → (s : SpaceView) (most : ℕ) (limits : Limits) (number other : What) → PassesWith s most limits number
+    → PassesWith s most limits other → other ≡ number
+counted_one one s most limits number other first second =
+    by number other first.passes (subst (λ (cs : List (List Literal)). PassesCounted limits s most cs other)
+    (one s first.clauses second.clauses first.are_clauses second.are_clauses) second.passes)
+  where
+    by : (w v : What) → PassesCounted limits s most first.clauses w → PassesCounted limits s most first.clauses v → v ≡ w
+    by what.Variables what.Variables p q = refl
+    by what.Variables what.Clauses p q = absurd (omega (arith, p, q.0))
+    by what.Variables what.Literals p q = absurd (omega (arith, p, q.0))
+    by what.Clauses what.Variables p q = absurd (omega (arith, p.0, q))
+    by what.Clauses what.Clauses p q = refl
+    by what.Clauses what.Literals p q = absurd (omega (arith, p.2, q.1))
+    by what.Literals what.Variables p q = absurd (omega (arith, p.0, q))
+    by what.Literals what.Clauses p q = absurd (omega (arith, p.1, q.2))
+    by what.Literals what.Literals p q = refl
+    by what.Variables v p q = absurd q
+    by what.Clauses v p q = absurd q
+    by what.Literals v p q = absurd q
+    by w v p q = absurd p
+
+pub counted_determined : AreExact → (files : Option Files) (s : SpaceView) (most : ℕ) (limits : Limits)
+    → IsDetermined (NumbersStage (PassesWith s most limits) files)
+counted_determined exact files s most limits =
+    numbers_determined (PassesWith s most limits) (λ number other. counted_one exact.clauses s most limits number other) files
+
+-- the newest versions are in order
+pub newest_order : (files : Option Files) (limits : Limits) (packages : List ℕ) (newest : PackageList) → IsNewestIn files limits packages newest
+    → IsInOrder newest.packages
+newest_order files limits packages newest (r, read, latest) = latest.in_order
+
+repair_excludes : AreExact → (files : Files) (limits : Limits) (packages named : List ℕ) (most : ℕ) (Last : SpaceView → ℕ → Ending → Type 0)
+    → Excludes (RepairStages (Some files) limits packages named most (λ space number ending. ⊥)) (RepairStages (Some files) limits packages named most Last)
+repair_excludes exact files limits packages named most Last =
+    then_excludes (NewestStage (Some files) limits packages) _ _ (newest_determined exact files limits packages) (λ newest goes.
+    then_excludes (NamedStage (Some files) newest.packages named) _ _
+    (named_determined exact.names (Some files) newest.packages named (newest_order (Some files) limits packages newest goes)) (λ number is_named.
+    then_excludes (PlainSpaceStage (Some files) limits newest) _ _ (plain_determined exact.space_of (Some files) limits newest) (λ space made.
+    then_excludes (NumbersStage (PassesWith space most limits) (Some files)) _ _ (counted_determined exact (Some files) space most limits)
+    (λ _ kept. nothing_excludes (Last space number)))))
 
 -- ---- commands
 
@@ -244,11 +378,15 @@ command_excludes exact (CheckExplain packages cert) files limits =
     then_excludes (ExplanationStage (Some files) limits cert r) _ _
     (explanation_determined exact.explanations files limits cert r (in_order (Some files) limits packages r goes))
     (λ accepted judged. nothing_excludes (TellsExplained (Some files) r accepted)))
+command_excludes exact (Explain packages cert named limit) files limits =
+    explain_excludes exact files limits packages named (Explains (Some files) limits cert limit)
 command_excludes exact (CheckRepair packages cert) files limits =
     then_excludes (PackagesStage (Some files) limits packages) _ _ (packages_determined exact files limits packages) (λ r goes.
     then_excludes (SpaceStage (Some files) limits false r) _ _ (space_determined exact.spaces (Some files) limits false r) (λ space made.
     then_excludes (RepairStage (Some files) limits cert space) _ _ (repair_determined exact.repairs files limits cert space)
     (λ accepted judged. nothing_excludes (TellsRepair (Some files) space accepted))))
+command_excludes exact (Repair packages cert named most limit) files limits =
+    repair_excludes exact files limits packages named most (Repairs (Some files) limits cert most limit)
 command_excludes exact (Try size seed) files limits =
     then_excludes (ArchiveStage (Some files) limits size seed) _ _ (archive_determined exact (Some files) limits size seed)
     (λ r goes end ending refuses tries. tries.first end refuses)
@@ -275,10 +413,28 @@ given_up_excludes exact (Health packages list) files limits end ending refuses g
 given_up_excludes exact (Classes packages) files limits end ending refuses given_up = absurd given_up
 given_up_excludes exact (Sweep kind packages cert essential limit) files limits end ending refuses given_up =
     sweep_excludes exact files limits kind packages essential (λ r e. Unit {0}) end ending refuses
-    (inr (given_up.repository, given_up.read, inr (tt, given_up.kept refl, tt)))
+    (inr (given_up.at, given_up.reached, inr (tt, given_up.kept refl, tt)))
 given_up_excludes exact (Check packages cert) files limits end ending refuses given_up = absurd given_up
 given_up_excludes exact (CheckExplain packages cert) files limits end ending refuses given_up = absurd given_up
+given_up_excludes exact (Explain packages cert named limit) files limits end ending refuses given_up =
+    explain_excludes exact files limits packages named (λ r number e. Unit {0}) end ending refuses
+    (inr (given_up.at.0, given_up.reached.0, inr (given_up.at.1, given_up.reached.1, inr (tt, given_up.kept refl, tt))))
 given_up_excludes exact (CheckRepair packages cert) files limits end ending refuses given_up = absurd given_up
+given_up_excludes exact (Repair packages cert named most limit) files limits end ending refuses given_up =
+    repair_excludes exact files limits packages named most (λ space number e. Unit {0}) end ending refuses
+    (inr (
+      given_up.at.0,
+      given_up.reached.0,
+      inr (
+        given_up.at.1,
+        given_up.reached.1,
+        inr (
+          given_up.at.2,
+          given_up.reached.2,
+          inr (tt, given_up.kept refl, tt),
+        ),
+      ),
+    ))
 given_up_excludes exact (Try size seed) files limits end ending refuses given_up = absurd given_up
 given_up_excludes exact (Steps packages later) files limits end ending refuses given_up = absurd given_up
 given_up_excludes exact (Follow packages cert journal) files limits end ending refuses given_up = absurd given_up

@@ -8,7 +8,7 @@ use Rattle.dist_outside.specs.Files.{Files, with_file}
 use Rattle.dist_outside.specs.SinkView.{SinkView}
 use Rattle.dist_outside.specs.declared.limits.Limits.{Limits}
 use Rattle.dist_outside.specs.declared.trouble.What.{What}
-use Rattle.dist_repo.specs.Order.{IsLatestOf}
+use Rattle.dist_repo.specs.Order.{IsInOrder, IsLatestOf}
 use Rattle.dist_repo.specs.PackageList.{PackageList}
 use Rattle.dist_space.specs.Space.{SpaceView}
 use Rattle.dist_history.specs.PlanText.{misfit_text, plan_text}
@@ -21,6 +21,10 @@ use Rattle.dist_cert.specs.declared.faults.ReadCertError.{ReadCertError}
 use Rattle.dist_cert.specs.declared.records.CertKind.{CertKind}
 use Rattle.dist_cert.specs.declared.records.Claim.{Claim}
 use Rattle.dist_cert.specs.declared.records.Header.{Header}
+use Rattle.dist_explain.specs.ExplanationFiles.{PassesFirst as ExplainPasses}
+use Rattle.dist_list.specs.NamedPackage.{IsNamed}
+use Rattle.dist_repair.specs.RepairFiles.{PassesWith}
+use Rattle.dist_repair.specs.Verdicts.{is_undecided}
 use Rattle.dist_journal.specs.declared.fault.FollowError.{FollowError}
 use Rattle.dist_journal.specs.declared.fault.FollowError.TheVariants as follow_error
 use Rattle.dist_history.specs.FollowText.{follow_text}
@@ -28,34 +32,42 @@ use Rattle.dist_subject.specs.Basis.{Basis, IsBasisOf, matter_of}
 use Rattle.dist_sweep.specs.Sweep.{IsFull, OfSweep, header_of}
 use Rattle.dist_trial.specs.Summary.{has_marks}
 use Rattle.dist_trial.specs.Trial.{IsStoppedAt}
-use Rattle.dist_words.specs.CommandLine.{CommandLine, Health, Classes, Sweep, Check, CheckExplain, CheckRepair, Try, Steps, Follow}
+use Rattle.dist_words.specs.CommandLine.{CommandLine, Health, Classes, Sweep, Check, CheckExplain, Explain, CheckRepair}
+use Rattle.dist_words.specs.CommandLine.{Repair as RepairLine, Try, Steps, Follow}
 use Rattle.dist_words.specs.Table.{command_of}
 use Rattle.dist_app.specs.Check.{CertificateAnswers, CertificateStage, Reports}
-use Rattle.dist_app.specs.CheckExplain.{ExplanationReads, ExplanationStage, TellsExplained}
+use Rattle.dist_app.specs.CheckExplain.{ExplanationReads, ExplanationStage, TellsExplained, leaves_undecided}
 use Rattle.dist_app.specs.CheckRepair.{RepairReads, RepairStage, TellsRepair}
 use Rattle.dist_app.specs.CheckedFile.{IsOneAnswer}
 use Rattle.dist_app.specs.Claims.{has_mark, marked_status}
 use Rattle.dist_app.specs.Classes.{TellsClasses}
 use Rattle.dist_app.specs.Command.{CommandDecides, CommandIsGivenUp, IsApart}
-use Rattle.dist_app.specs.Complete.{Completes, IsComplete, IsStatusOfFile, IsStatusOfJournal, IsStatusOfLater, IsStatusOfRefused, IsStatusOfSet}
-use Rattle.dist_app.specs.Complete.{IsUndisturbed, StopsBelowBudget, TrialIsComplete, stop_status, told_claims, told_explained, told_repair}
+use Rattle.dist_app.specs.Complete.{Completes, ExplainComesTo, IsComplete, IsStatusOfFile, IsStatusOfJournal, IsStatusOfLater, IsStatusOfRefused, IsStatusOfSet}
+use Rattle.dist_app.specs.Complete.{IsUndisturbed, StopsBelowBudget, TrialIsComplete, stop_status, told_claims, told_explained}
+use Rattle.dist_app.specs.Complete.{RepairComesTo, told_repair}
+use Rattle.dist_app.specs.Explain.{Explains, explain_writing}
 use Rattle.dist_app.specs.Follow.{IsEndOfJournal, JournalStage, JournalStages, TellsFollowed}
 use Rattle.dist_app.specs.Headline.{IsCarriedOut}
 use Rattle.dist_app.specs.Health.{Judges, ListStage, ListStages, Tells}
+use Rattle.dist_app.specs.NamedStage.{NamedStage}
 use Rattle.dist_app.specs.PackagesStage.{PackagesStage}
+use Rattle.dist_app.specs.Repair.{NewestStage, PlainSpaceStage, Repairs, repair_writing}
 use Rattle.dist_app.specs.Run.{Comes, Decides, IsRunGivenUp, Runs}
 use Rattle.dist_app.specs.Stages.{Ending, Goes, Then, answered}
 use Rattle.dist_app.specs.SpaceStage.{SpaceStage}
-use Rattle.dist_app.specs.Steps.{TellsLater}
+use Rattle.dist_app.specs.Steps.{IsNewestIn, TellsLater}
 use Rattle.dist_app.specs.Sweeps.{InputsStage, Sweeps}
 use Rattle.dist_app.specs.TextStage.{TextStage}
 use Rattle.dist_app.specs.Try.{ArchiveStage, Tries}
+use Rattle.dist_app.specs.WrittenFile.{NumbersStage}
 use Rattle.dist_app.specs.declared.refusal.Refusal.{Refusal}
 use Rattle.dist_app.specs.declared.refusal.Refusal.TheVariants as refusal
 use Rattle.dist_app.specs.declared.status.Status.{Status}
 use Rattle.dist_app.specs.declared.status.Status.TheVariants.{Done, WriteFault, NoMemory, TooLarge, NotAFuture}
+use Rattle.dist_app.specs.declared.status.Status.TheVariants.{NoSuchPackage}
 use Rattle.dist_app.proofs.CommandLaws.{AreExact, one_line, archive_determined, inputs_determined, in_order, list_determined}
-use Rattle.dist_app.proofs.CommandLaws.{HaveOneEnd, certificate_determined, packages_determined, space_determined, text_determined}
+use Rattle.dist_app.proofs.CommandLaws.{HaveOneEnd, certificate_determined, named_determined, numbers_determined, packages_determined}
+use Rattle.dist_app.proofs.CommandLaws.{counted_determined, newest_determined, newest_order, plain_determined, space_determined, text_determined}
 use Rattle.dist_app.proofs.FollowStages.{AfterCertificate}
 use Rattle.dist_app.proofs.Headlines.{of_line}
 use Rattle.dist_app.proofs.Judgements.{comes_to, judged_first}
@@ -237,6 +249,88 @@ check_repair_ends laws files limits packages cert r space ending read made decid
     (λ x. Then (SpaceStage (Some files) limits false x) (λ s. Then (RepairStage (Some files) limits cert s) (TellsRepair (Some files) s)))
     (packages_determined laws.texts files limits packages) r read ending decides))
 
+-- ---- `explain`
+
+explain_ends : Laws → (files : Files) (limits : Limits) (packages cert named : List ℕ) (limit : ℕ) (r : PackageList) (ending : Ending)
+    → PackagesStage (Some files) limits packages (Goes r) → CommandDecides (Explain packages cert named limit) (Some files) limits ending
+    → ExplainComesTo limits cert named limit r ending.status (Some files) ending.files
+explain_ends laws files limits packages cert named limit r ending read decides = record {
+  none = λ nobody. none nobody rest;
+  one = λ number is_named kept. whole number
+      (then_goes (NumbersStage (ExplainPasses r limits) (Some files)) (λ _. Explains (Some files) limits cert limit r number)
+      (numbers_determined (ExplainPasses r limits) (λ what other. laws.texts.explain_numbers r limits what other order) (Some files)) tt kept ending
+      (then_goes (NamedStage (Some files) r.packages named)
+      (λ n. Then (NumbersStage (ExplainPasses r limits) (Some files)) (λ _. Explains (Some files) limits cert limit r n))
+      (named_determined laws.texts.names (Some files) r.packages named order) number is_named ending rest));
+}
+  where
+    order : IsInOrder r.packages
+    order = in_order (Some files) limits packages r read
+
+    abbrev Rest : Type 0
+    Rest = Then (NamedStage (Some files) r.packages named)
+        (λ n. Then (NumbersStage (ExplainPasses r limits) (Some files)) (λ _. Explains (Some files) limits cert limit r n)) ending
+
+    rest : Rest
+    rest = then_goes (PackagesStage (Some files) limits packages) (λ x. Then (NamedStage (Some files) x.packages named)
+        (λ n. Then (NumbersStage (ExplainPasses x limits) (Some files)) (λ _. Explains (Some files) limits cert limit x n)))
+        (packages_determined laws.texts files limits packages) r read ending decides
+
+    none : ((number : ℕ) → ¬ IsNamed r.packages named number) → Rest → ending.status ≡ NoSuchPackage
+    none nobody (inl (found, is)) = ap (λ (x : Ending). x.status) is
+    none nobody (inr (number, is_named, after)) = absurd (nobody number is_named)
+
+    whole : (number : ℕ) → Explains (Some files) limits cert limit r number ending → IsCarriedOut ending.status
+        ⊎ ((what : What) × (text : List ℕ) × (ending.status ≡ TooLarge) × (explain_writing limits limit r number).IsFull what text
+        × (ending.files ≡ with_file (Some files) cert text))
+    whole number (inl done) = inl (carried_marks ending.status (leaves_undecided done.made) (ap (λ (x : Ending). x.status) done.is))
+    whole number (inr stopped) =
+        inr (stopped.what, stopped.text, ap (λ (x : Ending). x.status) stopped.is, stopped.full, ap (λ (x : Ending). x.files) stopped.is)
+
+-- ---- `repair`
+
+-- the rest of a run behind each stage
+module _ (limits : Limits) (cert named : List ℕ) (most limit : ℕ) (files : Option Files) where
+  abbrev AfterSpace : ℕ → SpaceView → Ending → Type 0
+  AfterSpace number s = Then (NumbersStage (PassesWith s most limits) files) (λ _. Repairs files limits cert most limit s number)
+
+  abbrev AfterName : PackageList → ℕ → Ending → Type 0
+  AfterName newest number = Then (PlainSpaceStage files limits newest) (AfterSpace number)
+
+  abbrev AfterNewest : PackageList → Ending → Type 0
+  AfterNewest newest = Then (NamedStage files newest.packages named) (AfterName newest)
+
+repair_ends : Laws → (files : Files) (limits : Limits) (packages cert named : List ℕ) (most limit : ℕ) (newest : PackageList) (ending : Ending)
+    → IsNewestIn (Some files) limits packages newest → CommandDecides (RepairLine packages cert named most limit) (Some files) limits ending
+    → RepairComesTo limits cert named most limit newest ending.status (Some files) ending.files
+repair_ends laws files limits packages cert named most limit newest ending read decides = record {
+  none = λ nobody. none nobody rest;
+  one = λ number space is_named made kept. whole number space
+      (then_goes (NumbersStage (PassesWith space most limits) (Some files)) (λ _. Repairs (Some files) limits cert most limit space number)
+      (counted_determined laws.texts (Some files) space most limits) tt kept ending
+      (then_goes (PlainSpaceStage (Some files) limits newest) (AfterSpace limits cert named most limit (Some files) number)
+      (plain_determined laws.texts.space_of (Some files) limits newest) space made ending
+      (then_goes (NamedStage (Some files) newest.packages named) (AfterName limits cert named most limit (Some files) newest)
+      (named_determined laws.texts.names (Some files) newest.packages named (newest_order (Some files) limits packages newest read))
+      number is_named ending rest)));
+}
+  where
+    rest : AfterNewest limits cert named most limit (Some files) newest ending
+    rest = then_goes (NewestStage (Some files) limits packages) (AfterNewest limits cert named most limit (Some files))
+        (newest_determined laws.texts files limits packages) newest read ending decides
+
+    none : ((number : ℕ) → ¬ IsNamed newest.packages named number) → AfterNewest limits cert named most limit (Some files) newest ending
+        → ending.status ≡ NoSuchPackage
+    none nobody (inl (found, is)) = ap (λ (x : Ending). x.status) is
+    none nobody (inr (number, is_named, after)) = absurd (nobody number is_named)
+
+    whole : (number : ℕ) (space : SpaceView) → Repairs (Some files) limits cert most limit space number ending → IsCarriedOut ending.status
+        ⊎ ((what : What) × (text : List ℕ) × (ending.status ≡ TooLarge) × (repair_writing limits most limit space number).IsFull what text
+        × (ending.files ≡ with_file (Some files) cert text))
+    whole number space (inl done) = inl (carried_marks ending.status (is_undecided done.made) (ap (λ (x : Ending). x.status) done.is))
+    whole number space (inr stopped) =
+        inr (stopped.what, stopped.text, ap (λ (x : Ending). x.status) stopped.is, stopped.full, ap (λ (x : Ending). x.files) stopped.is)
+
 -- what the newest versions of LATER come to, by those of PACKAGES
 told_later : (files : Option Files) (space : SpaceView) (l : PackageList) (ending : Ending) (tells : TellsLater files space l ending)
     → IsStatusOfLater space.repository tells.later ending.status
@@ -331,8 +425,12 @@ module _ (laws : Laws) (words : List (List ℕ)) (limits : Limits) (files : File
     check = λ packages cert r is read. inr (check_ends laws files limits packages cert r ending read (of (Check packages cert) is));
     check_explain = λ packages cert r is read.
         inr (check_explain_ends laws files limits packages cert r ending read (of (CheckExplain packages cert) is));
+    explain = λ packages cert named limit r is read.
+        inr (explain_ends laws files limits packages cert named limit r ending read (of (Explain packages cert named limit) is));
     check_repair = λ packages cert r space is read made.
         inr (check_repair_ends laws files limits packages cert r space ending read made (of (CheckRepair packages cert) is));
+    repair = λ packages cert named most limit newest is read.
+        inr (repair_ends laws files limits packages cert named most limit newest ending read (of (RepairLine packages cert named most limit) is));
     steps = λ packages later r l newest_later space is read made read_later latest_later.
         inr (steps_end laws files limits packages later r l newest_later space ending read made read_later latest_later (of (Steps packages later) is));
     follow_judges = λ packages cert journal r is read.
@@ -354,7 +452,9 @@ stored_out words limits result files left memory = record {
   sweep = λ kind packages cert essential limit r is read kept. inl memory;
   check = λ packages cert r is read. inl memory;
   check_explain = λ packages cert r is read. inl memory;
+  explain = λ packages cert named limit r is read. inl memory;
   check_repair = λ packages cert r space is read made. inl memory;
+  repair = λ packages cert named most limit newest is read. inl memory;
   steps = λ packages later r l newest_later space is read made read_later latest_later. inl memory;
   follow_judges = λ packages cert journal r is read. inl memory;
   follow = λ packages cert journal r accepted space text is read judged made whole. inl memory;

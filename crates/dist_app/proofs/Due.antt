@@ -31,6 +31,11 @@ pub ok_more : {X E : Type 0} (result : Result X E) (P Q : X → Type 0) → ((va
 ok_more (Ok value) P Q more has = more value has
 ok_more (Err error) P Q more has = tt
 
+-- two facts of a value are one
+pub both : {X E : Type 0} (result : Result X E) (P Q : X → Type 0) → IfOk result P → IfOk result Q → IfOk result (λ value. P value × Q value)
+both (Ok value) P Q first second = (first, second)
+both (Err error) P Q first second = tt
+
 pub err_more : {X E : Type 0} (result : Result X E) (P Q : E → Type 0) → ((error : E) → P error → Q error) → IfErr result P → IfErr result Q
 err_more (Ok value) P Q more has = tt
 err_more (Err error) P Q more has = more error has

@@ -1,41 +1,57 @@
--- What a run that sweeps, and one of `check`, `check-explain`, `steps` and `follow` prove, from the end that they come to.
+-- What a run that sweeps, and one of each other command with a claim prove, from the end that they come to.
 use Rattle.std.proofs.Common.{◌≡◌, ℕ, Bool, false, List, inl, inr, Option, Some, None, ap, ◌∙◌, subst, sym}
 use Rattle.dist_outside.specs.DeskView.{DeskView}
 use Rattle.dist_outside.specs.Files.{Files}
 use Rattle.dist_outside.specs.SinkView.{SinkView, Grew}
 use Rattle.dist_outside.specs.declared.limits.Limits.{Limits}
 use Rattle.dist_repo.specs.PackageList.{PackageList}
-use Rattle.dist_space.specs.Space.{SpaceView}
+use Rattle.dist_space.specs.Space.{IsSpace, SpaceView}
+use Rattle.dist_space.specs.SpaceOf.{IsSpaceOf}
+use Rattle.dist_findings.specs.Answers.{IsAnswered}
+use Rattle.dist_repair.specs.Answered.{Answers}
+use Rattle.dist_repair.specs.RepairFiles.{PassesWith, asked_by, repair_files}
+use Rattle.dist_repair.specs.Verdicts.{AcceptedSays, IsHeaderOf}
+use Rattle.dist_repair.specs.declared.repair.Repair.{Repair}
+use Rattle.dist_repair.specs.declared.verdict.RepairHeader.{RepairHeader}
+use Rattle.dist_repair_search.specs.SearchAnswers.{header_with}
 use Rattle.dist_cert.specs.declared.records.CertKind.{CertKind}
 use Rattle.dist_cert.specs.declared.records.Claim.{Claim}
 use Rattle.dist_cert.specs.declared.records.Header.{Header}
+use Rattle.dist_list.specs.NamedPackage.{IsNamed}
+use Rattle.dist_repo.specs.Order.{IsInOrder}
+use Rattle.dist_explain.specs.ExplanationFiles.{PassesFirst as ExplainPasses}
+use Rattle.dist_explain.specs.Verdicts.{AcceptedMeans as ExplanationMeans, IsExplanation}
 use Rattle.dist_explain.specs.declared.explained.Explained.{Explained}
 use Rattle.dist_explain.specs.declared.verdict.ExplainHeader.{ExplainHeader}
-use Rattle.dist_repair.specs.declared.repair.Repair.{Repair}
-use Rattle.dist_repair.specs.declared.verdict.RepairHeader.{RepairHeader}
-use Rattle.dist_words.specs.CommandLine.{CommandLine, Sweep, Check, CheckExplain, CheckRepair, Steps, Follow}
+use Rattle.dist_subject.specs.Limited.{PassesFirst}
+use Rattle.dist_words.specs.CommandLine.{CommandLine, Sweep, Check, CheckExplain, Explain, CheckRepair}
+use Rattle.dist_words.specs.CommandLine.{Repair as RepairLine, Steps, Follow}
 use Rattle.dist_words.specs.Table.{command_of}
 use Rattle.dist_app.specs.CarriedPrivate.{IsAnswered}
 use Rattle.dist_app.specs.Check.{CertificateAnswers, CertificateStage, CheckStages, Reports}
 use Rattle.dist_app.specs.CheckExplain.{CheckExplainStages, ExplanationReads, ExplanationStage, TellsExplained}
 use Rattle.dist_app.specs.CheckRepair.{CheckRepairStages, RepairReads, RepairStage, TellsRepair}
 use Rattle.dist_app.specs.Command.{CommandDecides}
+use Rattle.dist_app.specs.Explain.{ExplainStages, Explains, explain_writing, header_on}
 use Rattle.dist_app.specs.Follow.{FollowStages, TellsFollowed}
-use Rattle.dist_app.specs.Headline.{CheckRepairIsProved, ProvesCheckRepair}
-use Rattle.dist_app.specs.Headline.{CheckExplainIsProved, CheckIsProved, IsCarriedOut, ProvesCheck, ProvesCheckExplain, ProvesFollow, ProvesMisfit}
-use Rattle.dist_app.specs.Headline.{AreCompared, FollowIsProved, ProvesPlan, ProvesSweep, StepsAreProved, SweepIsProved}
+use Rattle.dist_app.specs.Headline.{CheckExplainIsProved, CheckIsProved, ExplainIsProved, IsCarriedOut, ProvesCheck, ProvesCheckExplain}
+use Rattle.dist_app.specs.Headline.{AreCompared, FollowIsProved, ProvesExplain, ProvesFollow, ProvesMisfit, ProvesPlan, ProvesSweep}
+use Rattle.dist_app.specs.Headline.{CheckRepairIsProved, ProvesCheckRepair, ProvesRepair, RepairIsProved, StepsAreProved, SweepIsProved}
 use Rattle.dist_app.specs.PackagesStage.{PackagesStage}
 use Rattle.dist_app.specs.Refusal.{status_of}
+use Rattle.dist_app.specs.Repair.{RepairStages, Repairs, repair_writing}
 use Rattle.dist_app.specs.Run.{Decides}
 use Rattle.dist_app.specs.Stages.{Ending, Goes}
 use Rattle.dist_app.specs.SpaceStage.{IsSpaceOfFile, SpaceStage}
-use Rattle.dist_app.specs.Steps.{StepsStages, TellsLater}
-use Rattle.dist_app.specs.Sweeps.{IsSwept, SweepStages, Sweeps}
+use Rattle.dist_app.specs.Steps.{IsNewestIn, StepsStages, TellsLater}
+use Rattle.dist_app.specs.Sweeps.{SweepStages, Sweeps, sweep_writing}
+use Rattle.dist_app.specs.WrittenFile.{IsWritten}
 use Rattle.dist_app.specs.TextStage.{TextStage}
 use Rattle.dist_app.specs.declared.refusal.Refusal.{Refusal}
 use Rattle.dist_app.specs.declared.status.Status.{Status}
 use Rattle.dist_app.specs.declared.status.Status.TheVariants.{Done, NotAFuture}
-use Rattle.dist_app.proofs.Refused.{IsRefusal, check_refuses, inputs_refuse, not_a_misfit, not_carried_out, packages_refuses, refusal_not_a_misfit}
+use Rattle.dist_app.proofs.Refused.{IsRefusal, check_refuses, named_refuses, not_a_misfit, not_carried_out, numbers_refuse}
+use Rattle.dist_app.proofs.Refused.{packages_refuses, plain_space_refuses, refusal_not_a_misfit}
 use Rattle.dist_app.proofs.Refused.{journal_refuses, refusal_not_carried_out, space_refuses, text_refuses}
 use Rattle.dist_app.proofs.Sweeping.{ClaimsHold, sweep_means}
 
@@ -57,18 +73,19 @@ of_line words files limits line ending is (inr (other, is_other, decides)) =
 module _ (hold : ClaimsHold) (limits : Limits) (kind : CertKind) (packages cert : List ℕ) (essential : Bool) (limit : ℕ) (result : Status)
     (desk desk' : DeskView) (out out' : SinkView) (ending : Ending)
     (status_is : result ≡ ending.status) (carried : IsCarriedOut ending.status) (files : desk'.files ≡ ending.files) (printed : Grew ending.out out out') where
-  swept_proves : (r : PackageList) → PackagesStage desk.files limits packages (Goes r) → IsSwept desk.files limits kind cert essential limit r ending
+  swept_proves : (r : PackageList) → PackagesStage desk.files limits packages (Goes r)
+      → IsWritten (sweep_writing limits kind essential limit r) desk.files cert ending
       → ProvesSweep limits kind packages cert essential limit result desk desk' out out'
   swept_proves r (text, goes, has) swept = record {
     repository = r;
     read = (text, goes, has);
     made = swept.made;
     text = swept.text;
-    certificate = swept.certificate;
+    certificate = swept.whole;
     files = files ∙ ap (λ (e : Ending). e.files) swept.is;
-    means = sweep_means hold r kind essential limit limits swept.text swept.made has.in_order swept.certificate;
-    report = swept.report;
-    is_report = swept.is_report;
+    means = sweep_means hold r kind essential limit limits swept.text swept.made has.in_order swept.whole;
+    report = swept.out;
+    is_report = swept.told;
     printed = subst (λ (e : Ending). Grew e.out out out') swept.is printed;
     status = status_is ∙ ap (λ (e : Ending). e.status) swept.is;
   }
@@ -77,7 +94,7 @@ module _ (hold : ClaimsHold) (limits : Limits) (kind : CertKind) (packages cert 
       → ProvesSweep limits kind packages cert essential limit result desk desk' out out'
   sweep_proves (inl ends) = absurd (refusal_not_carried_out desk.files ending (packages_refuses desk.files limits packages ending ends) carried)
   sweep_proves (inr (r, goes, inl ends)) =
-      absurd (refusal_not_carried_out desk.files ending (inputs_refuse desk.files limits kind essential r ending ends) carried)
+      absurd (refusal_not_carried_out desk.files ending (numbers_refuse (PassesFirst r kind essential limits) desk.files ending ends) carried)
   sweep_proves (inr (r, goes, inr (_, kept, inl swept))) = swept_proves r goes swept
   sweep_proves (inr (r, goes, inr (_, kept, inr stopped))) = absurd (subst (λ (e : Ending). IsCarriedOut e.status) stopped.is carried)
 
@@ -138,6 +155,48 @@ module _ (limits : Limits) (packages cert : List ℕ) (result : Status) (desk de
       absurd (refusal_not_carried_out desk.files ending (check_refuses (ExplanationReads r limits) desk.files cert ending ends) carried)
   check_explain_proves (inr (r, goes, inr (accepted, judged, told))) = told_proves r accepted goes judged told
 
+-- ---- `explain`
+
+-- the law of the checker
+abbrev pub ExplanationsHold : Type 0
+ExplanationsHold = (r : PackageList) (limits : Limits) (text : List ℕ) (h : ExplainHeader) (explained : Explained) → IsInOrder r.packages
+    → IsExplanation r limits text h explained → ExplanationMeans r h explained
+
+module _ (hold : ExplanationsHold) (limits : Limits) (packages cert named : List ℕ) (limit : ℕ) (result : Status) (desk desk' : DeskView)
+    (out out' : SinkView) (ending : Ending) (status_is : result ≡ ending.status) (carried : IsCarriedOut ending.status)
+    (files : desk'.files ≡ ending.files) (printed : Grew ending.out out out') where
+  abbrev ProvesOne : Type 0
+  ProvesOne = ProvesExplain limits packages cert named limit result desk desk' out out'
+
+  explained_proves : (r : PackageList) (number : ℕ) → PackagesStage desk.files limits packages (Goes r) → IsNamed r.packages named number
+      → IsWritten (explain_writing limits limit r number) desk.files cert ending → ProvesOne
+  explained_proves r number (bytes, goes, has) is_named whole = record {
+    repository = r;
+    read = (bytes, goes, has);
+    number = number;
+    is_named = is_named;
+    explained = whole.made;
+    text = whole.text;
+    accepted = whole.whole.0;
+    in_order = whole.whole.1;
+    files = files ∙ ap (λ (e : Ending). e.files) whole.is;
+    means = hold r limits whole.text (header_on number limit) whole.made has.in_order whole.whole.0;
+    told = whole.out;
+    is_told = whole.told;
+    printed = subst (λ (e : Ending). Grew e.out out out') whole.is printed;
+    status = status_is ∙ ap (λ (e : Ending). e.status) whole.is;
+  }
+
+  pub explain_proves : ExplainStages desk.files limits packages named (Explains desk.files limits cert limit) ending → ProvesOne
+  explain_proves (inl ends) = absurd (refusal_not_carried_out desk.files ending (packages_refuses desk.files limits packages ending ends) carried)
+  explain_proves (inr (r, goes, inl ends)) =
+      absurd (refusal_not_carried_out desk.files ending (named_refuses desk.files r.packages named ending ends) carried)
+  explain_proves (inr (r, goes, inr (number, is_named, inl ends))) =
+      absurd (refusal_not_carried_out desk.files ending (numbers_refuse (ExplainPasses r limits) desk.files ending ends) carried)
+  explain_proves (inr (r, goes, inr (number, is_named, inr (_, kept, inl whole)))) = explained_proves r number goes is_named whole
+  explain_proves (inr (r, goes, inr (number, is_named, inr (_, kept, inr stopped)))) =
+      absurd (subst (λ (e : Ending). IsCarriedOut e.status) stopped.is carried)
+
 -- ---- `check-repair`
 
 module _ (limits : Limits) (packages cert : List ℕ) (result : Status) (desk desk' : DeskView) (out out' : SinkView) (ending : Ending)
@@ -168,6 +227,54 @@ module _ (limits : Limits) (packages cert : List ℕ) (result : Status) (desk de
   check_repair_proves (inr (r, goes, inr (space, made, inl ends))) =
       absurd (refusal_not_carried_out desk.files ending (check_refuses (RepairReads space limits) desk.files cert ending ends) carried)
   check_repair_proves (inr (r, goes, inr (space, made, inr (accepted, judged, told)))) = checked_proves r space accepted goes made.0 judged told
+
+-- ---- `repair`
+
+-- the law of the checker
+abbrev pub RepairsHold : Type 0
+RepairsHold = (s : SpaceView) (limits : Limits) (text numbers : List ℕ) (h : RepairHeader) (repair : Repair) → IsSpace s → IsHeaderOf numbers h
+    → IsAnswered (repair_files s) limits text numbers (λ found. Answers s (asked_by numbers) found repair) → AcceptedSays s h repair
+
+module _ (hold : RepairsHold) (limits : Limits) (packages cert named : List ℕ) (most limit : ℕ) (result : Status) (desk desk' : DeskView)
+    (out out' : SinkView) (ending : Ending) (status_is : result ≡ ending.status) (carried : IsCarriedOut ending.status)
+    (files : desk'.files ≡ ending.files) (printed : Grew ending.out out out') where
+  abbrev ProvesTheRepair : Type 0
+  ProvesTheRepair = ProvesRepair limits packages cert named most limit result desk desk' out out'
+
+  repaired_proves : (newest : PackageList) (number : ℕ) (space : SpaceView) → IsNewestIn desk.files limits packages newest
+      → IsNamed newest.packages named number → IsSpaceOf newest false space
+      → IsWritten (repair_writing limits most limit space number) desk.files cert ending → ProvesTheRepair
+  repaired_proves newest number space goes is_named is_space whole =
+      let made = whole.whole.0 in
+      record {
+        newest = newest;
+        read = goes;
+        number = number;
+        is_named = is_named;
+        space = space;
+        is_space = is_space;
+        repair = whole.made;
+        text = whole.text;
+        accepted = whole.whole.0;
+        in_order = whole.whole.1;
+        files = files ∙ ap (λ (e : Ending). e.files) whole.is;
+        says = hold space limits whole.text made.0 (header_with limit number most) whole.made is_space.space made.1 made.2;
+        printed = subst (λ (t : List ℕ). Grew t out out') (ap (λ (e : Ending). e.out) whole.is ∙ whole.told) printed;
+        status = status_is ∙ ap (λ (e : Ending). e.status) whole.is;
+      }
+
+  pub repair_proves : RepairStages desk.files limits packages named most (Repairs desk.files limits cert most limit) ending → ProvesTheRepair
+  repair_proves (inl ends) = absurd (refusal_not_carried_out desk.files ending (packages_refuses desk.files limits packages ending ends) carried)
+  repair_proves (inr (newest, goes, inl ends)) =
+      absurd (refusal_not_carried_out desk.files ending (named_refuses desk.files newest.packages named ending ends) carried)
+  repair_proves (inr (newest, goes, inr (number, is_named, inl ends))) =
+      absurd (refusal_not_carried_out desk.files ending (plain_space_refuses desk.files limits newest ending ends) carried)
+  repair_proves (inr (newest, goes, inr (number, is_named, inr (space, made, inl ends)))) =
+      absurd (refusal_not_carried_out desk.files ending (numbers_refuse (PassesWith space most limits) desk.files ending ends) carried)
+  repair_proves (inr (newest, goes, inr (number, is_named, inr (space, made, inr (_, kept, inl whole))))) =
+      repaired_proves newest number space goes is_named made.0 whole
+  repair_proves (inr (newest, goes, inr (number, is_named, inr (space, made, inr (_, kept, inr stopped))))) =
+      absurd (subst (λ (e : Ending). IsCarriedOut e.status) stopped.is carried)
 
 -- ---- `steps`
 
@@ -302,6 +409,16 @@ pub check_explain_refused : (words : List (List ℕ)) (limits : Limits) (r : Ref
     → CheckExplainIsProved words limits (status_of r) desk desk' out out'
 check_explain_refused words limits r desk desk' out out' packages cert is carried = absurd (not_carried_out r carried)
 
+pub explain_proved : ExplanationsHold → (words : List (List ℕ)) (limits : Limits) (result : Status) (desk desk' : DeskView) (out out' : SinkView)
+    → IsAnswered words limits desk desk' out out' result → ExplainIsProved words limits result desk desk' out out'
+explain_proved hold words limits result desk desk' out out' a packages cert named limit is carried =
+    explain_proves hold limits packages cert named limit result desk desk' out out' a.ending a.status_is (subst IsCarriedOut a.status_is carried)
+    a.files a.printed (of_line words desk.files limits (Explain packages cert named limit) a.ending is a.decides)
+
+pub explain_refused : (words : List (List ℕ)) (limits : Limits) (r : Refusal) (desk desk' : DeskView) (out out' : SinkView)
+    → ExplainIsProved words limits (status_of r) desk desk' out out'
+explain_refused words limits r desk desk' out out' packages cert named limit is carried = absurd (not_carried_out r carried)
+
 pub check_repair_proved : (words : List (List ℕ)) (limits : Limits) (result : Status) (desk desk' : DeskView) (out out' : SinkView)
     → IsAnswered words limits desk desk' out out' result → CheckRepairIsProved words limits result desk desk' out out'
 check_repair_proved words limits result desk desk' out out' a packages cert is carried =
@@ -311,6 +428,16 @@ check_repair_proved words limits result desk desk' out out' a packages cert is c
 pub check_repair_refused : (words : List (List ℕ)) (limits : Limits) (r : Refusal) (desk desk' : DeskView) (out out' : SinkView)
     → CheckRepairIsProved words limits (status_of r) desk desk' out out'
 check_repair_refused words limits r desk desk' out out' packages cert is carried = absurd (not_carried_out r carried)
+
+pub repair_proved : RepairsHold → (words : List (List ℕ)) (limits : Limits) (result : Status) (desk desk' : DeskView) (out out' : SinkView)
+    → IsAnswered words limits desk desk' out out' result → RepairIsProved words limits result desk desk' out out'
+repair_proved hold words limits result desk desk' out out' a packages cert named most limit is carried =
+    repair_proves hold limits packages cert named most limit result desk desk' out out' a.ending a.status_is (subst IsCarriedOut a.status_is carried)
+    a.files a.printed (of_line words desk.files limits (RepairLine packages cert named most limit) a.ending is a.decides)
+
+pub repair_refused : (words : List (List ℕ)) (limits : Limits) (r : Refusal) (desk desk' : DeskView) (out out' : SinkView)
+    → RepairIsProved words limits (status_of r) desk desk' out out'
+repair_refused words limits r desk desk' out out' packages cert named most limit is carried = absurd (not_carried_out r carried)
 
 -- a refusal proves nothing of either
 pub sweep_refused : (words : List (List ℕ)) (limits : Limits) (r : Refusal) (desk desk' : DeskView) (out out' : SinkView)

@@ -4,6 +4,7 @@ pub mod Chains
 pub mod Completes
 pub mod Due
 pub mod Endings
+pub mod ExplainLemmas
 pub mod FollowLemmas
 pub mod FollowStages
 pub mod Headlines
@@ -21,4 +22,5 @@ pub mod StageLaws
 pub mod StepsStages
 pub mod Sweeping
 pub mod Writing
+pub mod Writings
 mod Trying

@@ -3,6 +3,7 @@ use Rattle.std.proofs.Common.{◌≡◌, ℕ, Bool, true, false, List, [], inl, 
 use Rattle.std.specs.List.{list_any}
 use Rattle.dist_outside.specs.Files.{Files}
 use Rattle.dist_outside.specs.declared.limits.Limits.{Limits}
+use Rattle.dist_outside.specs.declared.trouble.What.{What}
 use Rattle.dist_outside.specs.declared.trouble.What.TheVariants as what
 use Rattle.dist_outside.specs.declared.trouble.WorkError.TheVariants as work
 use Rattle.dist_package.specs.declared.error.PackagesError.{PackagesError}
@@ -16,13 +17,17 @@ use Rattle.dist_journal.specs.declared.fault.FollowError.{FollowError}
 use Rattle.dist_journal.specs.declared.fault.FollowError.TheVariants as follow_error
 use Rattle.dist_history.specs.FollowText.{follow_text}
 use Rattle.dist_history.specs.PlanText.{misfit_text, plan_text}
+use Rattle.dist_explain.specs.ExplanationFiles.{PassesFirst as ExplainPasses}
+use Rattle.dist_repair.specs.RepairFiles.{PassesWith}
 use Rattle.dist_repair.specs.Verdicts.{is_undecided}
 use Rattle.dist_cert.specs.declared.faults.ReadCertError.{ReadCertError}
 use Rattle.dist_cert.specs.declared.faults.ReadCertError.TheVariants.{Bad, Work}
 use Rattle.dist_cert.specs.declared.records.CertKind.{CertKind}
 use Rattle.dist_cert.specs.declared.records.CertKind.TheVariants as kinds
+use Rattle.dist_subject.specs.Limited.{PassesFirst}
 use Rattle.dist_trial.specs.Summary.{has_marks}
-use Rattle.dist_words.specs.CommandLine.{CommandLine, Health, Classes, Sweep, Check, CheckExplain, CheckRepair, Try, Steps, Follow}
+use Rattle.dist_words.specs.CommandLine.{CommandLine, Health, Classes, Sweep, Check, CheckExplain, Explain, CheckRepair}
+use Rattle.dist_words.specs.CommandLine.{Repair, Try, Steps, Follow}
 use Rattle.dist_app.specs.Check.{CertificateAnswers}
 use Rattle.dist_app.specs.CheckExplain.{ExplanationReads, leaves_undecided}
 use Rattle.dist_app.specs.CheckRepair.{RepairReads}
@@ -32,16 +37,18 @@ use Rattle.dist_app.specs.Command.{CommandDecides, CommandRefuses, CommandIsGive
 use Rattle.dist_app.specs.Follow.{IsEndOfJournal, JournalStage}
 use Rattle.dist_app.specs.Headline.{IsCarriedOut}
 use Rattle.dist_app.specs.Health.{ListStage, Tells}
+use Rattle.dist_app.specs.NamedStage.{NamedStage}
 use Rattle.dist_app.specs.PackagesStage.{PackagesStage}
 use Rattle.dist_app.specs.Refusal.{status_of, refusal_text}
+use Rattle.dist_app.specs.Repair.{PlainSpaceStage}
 use Rattle.dist_app.specs.RepositoryStage.{IsEndOf}
 use Rattle.dist_app.specs.Run.{Decides, Refuses}
 use Rattle.dist_app.specs.Stages.{Ending, Ends, answered, refused}
 use Rattle.dist_app.specs.SpaceStage.{SpaceStage}
 use Rattle.dist_app.specs.Steps.{TellsLater}
-use Rattle.dist_app.specs.Sweeps.{InputsStage}
 use Rattle.dist_app.specs.TextStage.{TextStage}
 use Rattle.dist_app.specs.Try.{ArchiveStage}
+use Rattle.dist_app.specs.WrittenFile.{NumbersStage}
 use Rattle.dist_app.specs.declared.refusal.Refusal.{Refusal}
 use Rattle.dist_app.specs.declared.refusal.Refusal.TheVariants as refusal
 use Rattle.dist_app.specs.declared.status.Status.{Status}
@@ -83,6 +90,7 @@ not_carried_out refusal.NoMemory out = out
 not_carried_out (refusal.TooLarge limit) out = out
 not_carried_out (refusal.BadList line) out = out
 not_carried_out (refusal.BadJournal line fault) out = out
+not_carried_out refusal.NoSuchPackage out = out
 
 -- nor does it end as a later archive does that is no future
 pub not_a_misfit : (r : Refusal) → ¬ (status_of r ≡ NotAFuture)
@@ -95,6 +103,7 @@ not_a_misfit refusal.NoMemory is = cc
 not_a_misfit (refusal.TooLarge limit) is = cc
 not_a_misfit (refusal.BadList line) is = cc
 not_a_misfit (refusal.BadJournal line fault) is = cc
+not_a_misfit refusal.NoSuchPackage is = cc
 
 pub refusal_not_a_misfit : (files : Option Files) (ending : Ending) → IsRefusal files ending → ¬ (ending.status ≡ NotAFuture)
 refusal_not_a_misfit files ending r is = not_a_misfit r.why (sym (ap (λ (e : Ending). e.status) r.is) ∙ is)
@@ -121,9 +130,16 @@ list_refuses : (files : Option Files) (packages : List Package) (text : List ℕ
     → IsRefusal files ending
 list_refuses files packages text ending (line, bad, is) = record { why = refusal.BadList line; of_files = tt; is = is }
 
-pub inputs_refuse : (files : Option Files) (limits : Limits) (kind : CertKind) (essential : Bool) (r : PackageList) (ending : Ending)
-    → InputsStage files limits kind essential r (Ends ending) → IsRefusal files ending
-inputs_refuse files limits kind essential r ending (number, passes, is) = record { why = refusal.TooLarge number; of_files = tt; is = is }
+pub numbers_refuse : (Passes : What → Type 0) (files : Option Files) (ending : Ending) → NumbersStage Passes files (Ends ending) → IsRefusal files ending
+numbers_refuse Passes files ending (number, passes, is) = record { why = refusal.TooLarge number; of_files = tt; is = is }
+
+pub plain_space_refuses : (files : Option Files) (limits : Limits) (newest : PackageList) (ending : Ending)
+    → PlainSpaceStage files limits newest (Ends ending) → IsRefusal files ending
+plain_space_refuses files limits newest ending (more, is) = record { why = refusal.TooLarge what.Variables; of_files = tt; is = is }
+
+pub named_refuses : (files : Option Files) (packages : List Package) (text : List ℕ) (ending : Ending) → NamedStage files packages text (Ends ending)
+    → IsRefusal files ending
+named_refuses files packages text ending (none, is) = record { why = refusal.NoSuchPackage; of_files = tt; is = is }
 
 error_refuses : (files : Option Files) (error : ReadCertError) (ending : Ending) → IsEndOfError files error ending → IsRefusal files ending
 error_refuses files (Bad fault) ending is = record { why = refusal.CertificateRefused fault; of_files = tt; is = is }
@@ -166,7 +182,7 @@ command_refuses (Classes packages) files limits ending (inl p) = packages_refuse
 command_refuses (Classes packages) files limits ending (inr (r, goes, none)) = absurd none
 command_refuses (Sweep kind packages cert essential limit) files limits ending (inl p) = packages_refuses files limits packages ending p
 command_refuses (Sweep kind packages cert essential limit) files limits ending (inr (r, goes, inl c)) =
-    inputs_refuse files limits kind essential r ending c
+    numbers_refuse (PassesFirst r kind essential limits) files ending c
 command_refuses (Sweep kind packages cert essential limit) files limits ending (inr (r, goes, inr (_, kept, none))) = absurd none
 command_refuses (Check packages cert) files limits ending (inl p) = packages_refuses files limits packages ending p
 command_refuses (Check packages cert) files limits ending (inr (r, goes, inl c)) = check_refuses (CertificateAnswers r limits) files cert ending c
@@ -174,13 +190,27 @@ command_refuses (Check packages cert) files limits ending (inr (r, goes, inr (ac
 command_refuses (CheckExplain packages cert) files limits ending (inl p) = packages_refuses files limits packages ending p
 command_refuses (CheckExplain packages cert) files limits ending (inr (r, goes, inl c)) = check_refuses (ExplanationReads r limits) files cert ending c
 command_refuses (CheckExplain packages cert) files limits ending (inr (r, goes, inr (accepted, judged, none))) = absurd none
+command_refuses (Explain packages cert named limit) files limits ending (inl p) = packages_refuses files limits packages ending p
+command_refuses (Explain packages cert named limit) files limits ending (inr (r, goes, inl n)) = named_refuses files r.packages named ending n
+command_refuses (Explain packages cert named limit) files limits ending (inr (r, goes, inr (number, is_named, inl c))) =
+    numbers_refuse (ExplainPasses r limits) files ending c
+command_refuses (Explain packages cert named limit) files limits ending (inr (r, goes, inr (number, is_named, inr (_, kept, none)))) = absurd none
 command_refuses (CheckRepair packages cert) files limits ending (inl p) = packages_refuses files limits packages ending p
 command_refuses (CheckRepair packages cert) files limits ending (inr (r, goes, inl s)) = space_refuses files limits false r ending s
 command_refuses (CheckRepair packages cert) files limits ending (inr (r, goes, inr (space, made, inl c))) =
     check_refuses (RepairReads space limits) files cert ending c
 command_refuses (CheckRepair packages cert) files limits ending (inr (r, goes, inr (space, made, inr (accepted, judged, none)))) = absurd none
+command_refuses (Repair packages cert named most limit) files limits ending (inl p) = packages_refuses files limits packages ending p
+command_refuses (Repair packages cert named most limit) files limits ending (inr (newest, goes, inl n)) =
+    named_refuses files newest.packages named ending n
+command_refuses (Repair packages cert named most limit) files limits ending (inr (newest, goes, inr (number, is_named, inl s))) =
+    plain_space_refuses files limits newest ending s
+command_refuses (Repair packages cert named most limit) files limits ending (inr (newest, goes, inr (number, is_named, inr (space, made, inl c)))) =
+    numbers_refuse (PassesWith space most limits) files ending c
+command_refuses (Repair packages cert named most limit) files limits ending
+    (inr (newest, goes, inr (number, is_named, inr (space, made, inr (_, kept, none))))) = absurd none
 command_refuses (Try size seed) files limits ending (inl a) = archive_refuses files limits size seed ending a
-command_refuses (Try size seed) files limits ending (inr (r, goes, c)) = inputs_refuse files limits kinds.Strong false r ending c
+command_refuses (Try size seed) files limits ending (inr (r, goes, c)) = numbers_refuse (PassesFirst r kinds.Strong false limits) files ending c
 command_refuses (Steps packages later) files limits ending (inl p) = packages_refuses files limits packages ending p
 command_refuses (Steps packages later) files limits ending (inr (r, goes, inl s)) = space_refuses files limits false r ending s
 command_refuses (Steps packages later) files limits ending (inr (r, goes, inr (space, made, inl p))) = packages_refuses files limits later ending p
@@ -240,7 +270,7 @@ command_status (Classes packages) files limits ending (inr (r, goes, tells)) = w
 command_status (Sweep kind packages cert essential limit) files limits ending (inl p) =
     refusal_status files ending (packages_refuses files limits packages ending p)
 command_status (Sweep kind packages cert essential limit) files limits ending (inr (r, goes, inl c)) =
-    refusal_status files ending (inputs_refuse files limits kind essential r ending c)
+    refusal_status files ending (numbers_refuse (PassesFirst r kind essential limits) files ending c)
 command_status (Sweep kind packages cert essential limit) files limits ending (inr (r, goes, inr (_, kept, inl swept))) =
     subst (λ (e : Ending). IsOfFiles e.status) (sym swept.is) (mark_of_files (list_any has_mark swept.made))
 command_status (Sweep kind packages cert essential limit) files limits ending (inr (r, goes, inr (_, kept, inr stopped))) =
@@ -255,6 +285,15 @@ command_status (CheckExplain packages cert) files limits ending (inr (r, goes, i
     refusal_status files ending (check_refuses (ExplanationReads r limits) files cert ending c)
 command_status (CheckExplain packages cert) files limits ending (inr (r, goes, inr (accepted, judged, told))) =
     subst (λ (e : Ending). IsOfFiles e.status) (sym told.is) (mark_of_files (leaves_undecided accepted.1))
+command_status (Explain packages cert named limit) files limits ending (inl p) = refusal_status files ending (packages_refuses files limits packages ending p)
+command_status (Explain packages cert named limit) files limits ending (inr (r, goes, inl n)) =
+    refusal_status files ending (named_refuses files r.packages named ending n)
+command_status (Explain packages cert named limit) files limits ending (inr (r, goes, inr (number, is_named, inl c))) =
+    refusal_status files ending (numbers_refuse (ExplainPasses r limits) files ending c)
+command_status (Explain packages cert named limit) files limits ending (inr (r, goes, inr (number, is_named, inr (_, kept, inl whole)))) =
+    subst (λ (e : Ending). IsOfFiles e.status) (sym whole.is) (mark_of_files (leaves_undecided whole.made))
+command_status (Explain packages cert named limit) files limits ending (inr (r, goes, inr (number, is_named, inr (_, kept, inr stopped)))) =
+    subst (λ (e : Ending). IsOfFiles e.status) (sym stopped.is) tt
 command_status (CheckRepair packages cert) files limits ending (inl p) = refusal_status files ending (packages_refuses files limits packages ending p)
 command_status (CheckRepair packages cert) files limits ending (inr (r, goes, inl s)) =
     refusal_status files ending (space_refuses files limits false r ending s)
@@ -262,6 +301,20 @@ command_status (CheckRepair packages cert) files limits ending (inr (r, goes, in
     refusal_status files ending (check_refuses (RepairReads space limits) files cert ending c)
 command_status (CheckRepair packages cert) files limits ending (inr (r, goes, inr (space, made, inr (accepted, judged, told)))) =
     subst (λ (e : Ending). IsOfFiles e.status) (sym told.is) (mark_of_files (is_undecided accepted.1))
+command_status (Repair packages cert named most limit) files limits ending (inl p) =
+    refusal_status files ending (packages_refuses files limits packages ending p)
+command_status (Repair packages cert named most limit) files limits ending (inr (newest, goes, inl n)) =
+    refusal_status files ending (named_refuses files newest.packages named ending n)
+command_status (Repair packages cert named most limit) files limits ending (inr (newest, goes, inr (number, is_named, inl s))) =
+    refusal_status files ending (plain_space_refuses files limits newest ending s)
+command_status (Repair packages cert named most limit) files limits ending (inr (newest, goes, inr (number, is_named, inr (space, made, inl c)))) =
+    refusal_status files ending (numbers_refuse (PassesWith space most limits) files ending c)
+command_status (Repair packages cert named most limit) files limits ending
+    (inr (newest, goes, inr (number, is_named, inr (space, made, inr (_, kept, inl whole))))) =
+    subst (λ (e : Ending). IsOfFiles e.status) (sym whole.is) (mark_of_files (is_undecided whole.made))
+command_status (Repair packages cert named most limit) files limits ending
+    (inr (newest, goes, inr (number, is_named, inr (space, made, inr (_, kept, inr stopped))))) =
+    subst (λ (e : Ending). IsOfFiles e.status) (sym stopped.is) tt
 command_status (Try size seed) files limits ending (inl a) = refusal_status files ending (archive_refuses files limits size seed ending a)
 command_status (Try size seed) files limits ending (inr (r, goes, tries)) =
     elim tries.comes [
@@ -296,7 +349,9 @@ given_up_status (Classes packages) files limits why ending given_up = absurd giv
 given_up_status (Sweep kind packages cert essential limit) files limits why ending given_up = ap (λ (e : Ending). e.status) given_up.is
 given_up_status (Check packages cert) files limits why ending given_up = absurd given_up
 given_up_status (CheckExplain packages cert) files limits why ending given_up = absurd given_up
+given_up_status (Explain packages cert named limit) files limits why ending given_up = ap (λ (e : Ending). e.status) given_up.is
 given_up_status (CheckRepair packages cert) files limits why ending given_up = absurd given_up
+given_up_status (Repair packages cert named most limit) files limits why ending given_up = ap (λ (e : Ending). e.status) given_up.is
 given_up_status (Try size seed) files limits why ending given_up = absurd given_up
 given_up_status (Steps packages later) files limits why ending given_up = absurd given_up
 given_up_status (Follow packages cert journal) files limits why ending given_up = absurd given_up

@@ -80,6 +80,7 @@ read_fault_of refusal.NoMemory is = cc
 read_fault_of (refusal.TooLarge limit) is = cc
 read_fault_of (refusal.BadList line) is = cc
 read_fault_of (refusal.BadJournal line fault) is = cc
+read_fault_of refusal.NoSuchPackage is = cc
 
 write_fault_of : (r : Refusal) → status_of r ≡ WriteFault → r ≡ refusal.WriteFault
 write_fault_of refusal.BadWords is = cc
@@ -91,6 +92,7 @@ write_fault_of refusal.NoMemory is = cc
 write_fault_of (refusal.TooLarge limit) is = cc
 write_fault_of (refusal.BadList line) is = cc
 write_fault_of (refusal.BadJournal line fault) is = cc
+write_fault_of refusal.NoSuchPackage is = cc
 
 told_of : (text : List ℕ) (result : Result (Unit {0}) WorkError) (old new : SinkView) → Writes text result old new → IsTold text old new
 told_of text (Ok done) old new grew = inl grew

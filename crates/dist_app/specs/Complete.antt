@@ -21,33 +21,40 @@ use Rattle.dist_cert.specs.declared.records.Claim.{Claim}
 use Rattle.dist_cert.specs.declared.records.Header.{Header}
 use Rattle.dist_subject.specs.Basis.{matter_of}
 use Rattle.dist_sweep.specs.Sweep.{OfSweep}
+use Rattle.dist_list.specs.NamedPackage.{IsNamed}
+use Rattle.dist_explain.specs.ExplanationFiles.{PassesFirst}
 use Rattle.dist_explain.specs.declared.explained.Explained.{Explained}
 use Rattle.dist_explain.specs.declared.verdict.ExplainHeader.{ExplainHeader}
-use Rattle.dist_journal.specs.declared.fault.FollowError.{FollowError}
-use Rattle.dist_journal.specs.declared.fault.FollowError.TheVariants as follow_error
+use Rattle.dist_repair.specs.RepairFiles.{PassesWith}
 use Rattle.dist_repair.specs.declared.repair.Repair.{Repair}
 use Rattle.dist_repair.specs.declared.verdict.RepairHeader.{RepairHeader}
-use Rattle.dist_words.specs.CommandLine.{Health, Classes, Sweep, Check, CheckExplain, CheckRepair, Try, Steps, Follow}
+use Rattle.dist_journal.specs.declared.fault.FollowError.{FollowError}
+use Rattle.dist_journal.specs.declared.fault.FollowError.TheVariants as follow_error
+use Rattle.dist_words.specs.CommandLine.{Health, Classes, Sweep, Check, CheckExplain, Explain, CheckRepair}
+use Rattle.dist_words.specs.CommandLine.{Repair as RepairLine, Try, Steps, Follow}
 use Rattle.dist_words.specs.Table.{command_of}
 use Rattle.dist_app.specs.Check.{CertificateAnswers, CertificateStage}
 use Rattle.dist_app.specs.CheckExplain.{ExplanationReads, explained_status}
 use Rattle.dist_app.specs.CheckRepair.{RepairReads, repaired_status}
 use Rattle.dist_app.specs.CheckedFile.{IsOneAnswer}
 use Rattle.dist_app.specs.Claims.{claims_status}
+use Rattle.dist_app.specs.Explain.{explain_writing}
 use Rattle.dist_app.specs.Follow.{IsStoppedFor}
 use Rattle.dist_app.specs.Headline.{IsCarriedOut}
 use Rattle.dist_app.specs.Health.{ListStage}
 use Rattle.dist_app.specs.PackagesStage.{PackagesStage}
+use Rattle.dist_app.specs.Repair.{PlainSpaceStage, repair_writing}
 use Rattle.dist_app.specs.Run.{TellsFiles}
 use Rattle.dist_app.specs.SpaceStage.{SpaceStage}
 use Rattle.dist_app.specs.Stages.{Goes}
-use Rattle.dist_app.specs.Steps.{IsFutureArchive}
+use Rattle.dist_app.specs.Steps.{IsFutureArchive, IsNewestIn}
 use Rattle.dist_app.specs.Sweeps.{InputsStage}
 use Rattle.dist_app.specs.TextStage.{TextStage}
 use Rattle.dist_app.specs.Try.{ArchiveStage}
+use Rattle.dist_app.specs.WrittenFile.{NumbersStage}
 use Rattle.dist_app.specs.declared.status.Status.{Status}
 use Rattle.dist_app.specs.declared.status.Status.TheVariants.{Done, CertificateRefused, NoMemory, TooLarge, NotHealthy}
-use Rattle.dist_app.specs.declared.status.Status.TheVariants.{BadJournal, NotAFuture}
+use Rattle.dist_app.specs.declared.status.Status.TheVariants.{BadJournal, NotAFuture, NoSuchPackage}
 
 -- The desk tells its files, and no fault of the desk or of `out` was counted.
 pub record IsUndisturbed (desk desk' : DeskView) (out out' : SinkView) : Type 0 where
@@ -153,6 +160,41 @@ CheckRepairIsComplete words limits result files = (packages cert : List ℕ) (r 
     → SpaceStage files limits false r (Goes space)
     → (result ≡ NoMemory) ⊎ IsStatusOfFile (RepairReads space limits) files cert told_repair result
 
+-- ---- `explain`
+
+-- 13 exactly where the option names no package. Else, where the clauses with selectors keep their numbers, the file is
+-- written and its answer told, or a number stopped it, with a full part of a file in CERT.
+pub record ExplainComesTo (limits : Limits) (cert named : List ℕ) (limit : ℕ) (r : PackageList) (status : Status)
+    (files left : Option Files) : Type 0 where
+  pub none : ((number : ℕ) → ¬ IsNamed r.packages named number) → status ≡ NoSuchPackage
+  pub one : (number : ℕ) → IsNamed r.packages named number → NumbersStage (PassesFirst r limits) files (Goes tt)
+      → IsCarriedOut status ⊎ ((what : What) × (text : List ℕ) × (status ≡ TooLarge)
+      × (explain_writing limits limit r number).IsFull what text × (left ≡ with_file files cert text))
+
+abbrev pub ExplainIsComplete : List (List ℕ) → Limits → Status → (files left : Option Files) → Type 0
+ExplainIsComplete words limits result files left = (packages cert named : List ℕ) (limit : ℕ) (r : PackageList)
+    → command_of words ≡ Some (Explain packages cert named limit) → PackagesStage files limits packages (Goes r)
+    → (result ≡ NoMemory) ⊎ ExplainComesTo limits cert named limit r result files left
+
+-- ---- `repair`
+
+-- 13 exactly where the option names no package of the newest versions. Else, where the space and its clauses with a
+-- counter keep their numbers, the file is written and its answer told, or a number stopped it, with a full part of a
+-- file in CERT.
+pub record RepairComesTo (limits : Limits) (cert named : List ℕ) (most limit : ℕ) (newest : PackageList)
+    (status : Status) (files left : Option Files) : Type 0 where
+  pub none : ((number : ℕ) → ¬ IsNamed newest.packages named number) → status ≡ NoSuchPackage
+  pub one : (number : ℕ) (space : SpaceView) → IsNamed newest.packages named number
+      → PlainSpaceStage files limits newest (Goes space) → NumbersStage (PassesWith space most limits) files (Goes tt)
+      → IsCarriedOut status ⊎ ((what : What) × (text : List ℕ) × (status ≡ TooLarge)
+      × (repair_writing limits most limit space number).IsFull what text × (left ≡ with_file files cert text))
+
+abbrev pub RepairIsComplete : List (List ℕ) → Limits → Status → (files left : Option Files) → Type 0
+RepairIsComplete words limits result files left =
+    (packages cert named : List ℕ) (most limit : ℕ) (newest : PackageList)
+    → command_of words ≡ Some (RepairLine packages cert named most limit) → IsNewestIn files limits packages newest
+    → (result ≡ NoMemory) ⊎ RepairComesTo limits cert named most limit newest result files left
+
 -- ---- `steps`
 
 -- what a later archive comes to: 0 exactly where it is a future, else 12
@@ -215,7 +257,9 @@ pub record Completes (words : List (List ℕ)) (limits : Limits) (result : Statu
     pub sweep : SweepIsComplete words limits result files left
     pub check : CheckIsComplete words limits result files
     pub check_explain : CheckExplainIsComplete words limits result files
+    pub explain : ExplainIsComplete words limits result files left
     pub check_repair : CheckRepairIsComplete words limits result files
+    pub repair : RepairIsComplete words limits result files left
     pub steps : StepsAreComplete words limits result files
     pub follow_judges : FollowJudges words limits result files
     pub follow : FollowIsComplete words limits result files

@@ -1,16 +1,17 @@
 -- Why a part of a run was given up, and what it leaves of the desk. No public clause cites it.
-use Rattle.std.specs.Prelude.{◌≡◌, ◌≤◌, ◌⊎◌, ℕ, Bool, List, Option}
+use Rattle.std.specs.Prelude.{◌≡◌, ◌≤◌, ◌⊎◌, ℕ, List, Option, Result, Ok, Err}
 use Rattle.dist_outside.specs.Counts.{Rose}
-use Rattle.dist_outside.specs.Files.{Files, IsNotWriting, with_file}
-use Rattle.dist_outside.specs.DeskView.{DeskView}
+use Rattle.dist_outside.specs.Files.{Files, Idle, IsNotWriting}
+use Rattle.dist_outside.specs.DeskView.{DeskView, Holds}
 use Rattle.dist_outside.specs.declared.limits.Limits.{Limits}
-use Rattle.dist_repo.specs.PackageList.{PackageList}
-use Rattle.dist_cert.specs.declared.records.CertKind.{CertKind}
-use Rattle.dist_sweep.specs.Sweep.{IsCutSweep}
+use Rattle.dist_outside.specs.declared.trouble.What.{What}
+use Rattle.dist_outside.specs.declared.trouble.What.TheVariants as what
+use Rattle.dist_outside.specs.declared.trouble.WorkError.{WorkError}
+use Rattle.dist_outside.specs.declared.trouble.WorkError.TheVariants as work
 use Rattle.dist_words.specs.CommandLine.{CommandLine}
 use Rattle.dist_app.specs.Command.{CommandDecides, CommandIsGivenUp, IsApart}
 use Rattle.dist_app.specs.Stages.{Ending, Ends, Goes, refused}
-use Rattle.dist_app.specs.Sweeps.{InputsStage, IsSweepStopped}
+use Rattle.dist_app.specs.WrittenFile.{IsFilled, LeavesCut, NumbersStage, Writing}
 use Rattle.dist_app.specs.declared.refusal.Refusal.{Refusal}
 use Rattle.dist_app.specs.declared.refusal.Refusal.TheVariants.{ReadFault, WriteFault, NoMemory}
 
@@ -25,27 +26,41 @@ abbrev pub IsDue : (Ending → Type 0) → DeskView → DeskView → Refusal →
 IsDue Decided old new refusal = ((refusal ≡ ReadFault) × Rose old.read_faults new.read_faults)
     ⊎ IsPartGivenUp Decided old.files refusal
 
--- ---- the sweep
+-- ---- commands that write a file
 
--- the file is as before, or holds what a sweep may have written so far
-abbrev pub LeavesCut : PackageList → CertKind → Bool → ℕ → Limits → (name : List ℕ) → (files left : Option Files)
+-- When each answer of a writer is given, and what it leaves of the file. Want of memory may come in place of any.
+abbrev pub WriterAnswers : {X : Type 0} → Writing X → (name : List ℕ) → DeskView → DeskView → Result X WorkError
     → Type 0
-LeavesCut r kind essential limit limits name files left =
-    (left ≡ files) ⊎ ((text : List ℕ) × IsCutSweep r kind essential limit limits text
-    × (left ≡ with_file files name text))
+WriterAnswers writing name old new (Ok made) =
+    (text : List ℕ) × Holds name text Idle old new × writing.IsWhole made text
+WriterAnswers writing name old new (Err (work.TooLarge what.Variables)) =
+    (new ≡ old) × writing.PassesFirst what.Variables
+WriterAnswers writing name old new (Err (work.TooLarge what.Clauses)) =
+    (new ≡ old) × writing.PassesFirst what.Clauses
+WriterAnswers writing name old new (Err (work.TooLarge what.Literals)) =
+    (new ≡ old) × writing.PassesFirst what.Literals
+WriterAnswers writing name old new (Err (work.TooLarge number)) =
+    (text : List ℕ) × Holds name text Idle old new × writing.IsFull number text
+WriterAnswers writing name old new (Err work.WriteFault) =
+    Rose old.write_faults new.write_faults × LeavesCut writing name old.files new.files
+WriterAnswers writing name old new (Err work.NoMemory) = LeavesCut writing name old.files new.files
+WriterAnswers writing name old new (Err work.ReadFault) = ⊥
 
--- A sweep was given up: what it is judged by passes a number, a later line does, a fault of writing was counted, or
--- memory was wanted, perhaps for the report alone.
-abbrev pub SweepStops : PackageList → CertKind → Bool → ℕ → Limits → (name : List ℕ) → DeskView → DeskView → Refusal
-    → Type 0
-SweepStops r kind essential limit limits name old new refusal =
-    (InputsStage old.files limits kind essential r (Ends (refused new.files refusal)))
-    ⊎ (InputsStage old.files limits kind essential r (Goes tt)
-    × IsSweepStopped old.files limits kind name essential limit r (refused new.files refusal))
+-- The number that is passed first is told, but for want of memory.
+abbrev pub TellsNumber : {X : Type 0} → Writing X → Result X WorkError → Type 0
+TellsNumber writing result = (number : What) → writing.PassesFirst number
+    → (result ≡ Err (work.TooLarge number)) ⊎ (result ≡ Err work.NoMemory)
+
+-- The writing was given up: what the file is judged by passes a number, a later line does, a fault of writing was
+-- counted, or memory was wanted, perhaps for what is told alone.
+abbrev pub WritingStops : {X : Type 0} → Writing X → (name : List ℕ) → DeskView → DeskView → Refusal → Type 0
+WritingStops writing name old new refusal =
+    NumbersStage writing.PassesFirst old.files (Ends (refused new.files refusal))
+    ⊎ (NumbersStage writing.PassesFirst old.files (Goes tt)
+    × IsFilled writing old.files name (refused new.files refusal))
     ⊎ ((refusal ≡ WriteFault) × Rose old.write_faults new.write_faults
-    × InputsStage old.files limits kind essential r (Goes tt)
-    × LeavesCut r kind essential limit limits name old.files new.files)
-    ⊎ ((refusal ≡ NoMemory) × LeavesCut r kind essential limit limits name old.files new.files)
+    × NumbersStage writing.PassesFirst old.files (Goes tt) × LeavesCut writing name old.files new.files)
+    ⊎ ((refusal ≡ NoMemory) × LeavesCut writing name old.files new.files)
 
 -- ---- all commands
 

@@ -1,4 +1,5 @@
--- What a run that sweeps, and one of `check`, `check-explain`, `steps` and `follow` prove.
+-- What a run that sweeps, and one of `check`, `explain`, `check-explain`, `repair`, `check-repair`, `steps` and
+-- `follow` prove.
 use Rattle.std.specs.Prelude.{◌≡◌, ◌↔◌, ◌≤◌, ◌^◌, ℕ, Bool, false, List, Some, Contains, length, slice_get}
 use Rattle.dist_outside.specs.DeskView.{DeskView}
 use Rattle.dist_outside.specs.Files.{IsPresent, file_bytes, with_file}
@@ -27,21 +28,27 @@ use Rattle.dist_check.specs.Answers.{AcceptedMeans}
 use Rattle.dist_explain.specs.Verdicts.{AcceptedMeans as ExplanationMeans, IsExplanation}
 use Rattle.dist_explain.specs.declared.explained.Explained.{Explained}
 use Rattle.dist_explain.specs.declared.verdict.ExplainHeader.{ExplainHeader}
+use Rattle.dist_judge.specs.Judging.{OfText}
+use Rattle.dist_check.specs.Means.{Means}
+use Rattle.dist_explain_search.specs.ExplainAnswers.{OfExplain}
 use Rattle.dist_repair.specs.Verdicts.{AcceptedSays, IsRepair}
 use Rattle.dist_repair.specs.declared.repair.Repair.{Repair}
 use Rattle.dist_repair.specs.declared.verdict.RepairHeader.{RepairHeader}
-use Rattle.dist_judge.specs.Judging.{OfText}
-use Rattle.dist_check.specs.Means.{Means}
-use Rattle.dist_report.specs.ExplainedText.{IsExplainedText}
+use Rattle.dist_repair_search.specs.SearchAnswers.{OfRepair, header_with}
 use Rattle.dist_report.specs.RepairText.{repair_text}
+use Rattle.dist_inquiry.specs.Written.{IsWholeText}
+use Rattle.dist_list.specs.NamedPackage.{IsNamed}
+use Rattle.dist_report.specs.ExplainedText.{IsExplainedText}
 use Rattle.dist_history.specs.PlanText.{misfit_text, plan_text}
 use Rattle.dist_journal.specs.declared.broken_list.Broken.{Broken}
 use Rattle.dist_history.specs.FollowText.{follow_text}
-use Rattle.dist_words.specs.CommandLine.{Sweep, Check, CheckExplain, CheckRepair, Steps, Follow}
+use Rattle.dist_words.specs.CommandLine.{Sweep, Check, CheckExplain, Explain, CheckRepair}
+use Rattle.dist_words.specs.CommandLine.{Repair as RepairLine, Steps, Follow}
 use Rattle.dist_words.specs.Table.{command_of}
 use Rattle.dist_app.specs.CheckExplain.{explained_status}
 use Rattle.dist_app.specs.CheckRepair.{repaired_status}
 use Rattle.dist_app.specs.Claims.{IsReportOf, claims_status}
+use Rattle.dist_app.specs.Explain.{header_on}
 use Rattle.dist_app.specs.Follow.{AreToldBroken, IsFollowedWhole, StaysBroken}
 use Rattle.dist_app.specs.PackagesStage.{PackagesStage}
 use Rattle.dist_app.specs.SpaceStage.{IsSpaceOfFile}
@@ -109,6 +116,26 @@ pub record ProvesCheckExplain (limits : Limits) (packages cert : List ℕ) (resu
   pub printed : Grew told out out'
   pub status : result ≡ explained_status explained
 
+-- PACKAGES has a repository, one of whose packages the option names, and CERT holds a whole file of an explanation of
+-- it, with the limit of the command, which is accepted with this answer and asks its questions in the order of the
+-- search. What is answered is true, and was printed. All other files are as before.
+pub record ProvesExplain (limits : Limits) (packages cert named : List ℕ) (limit : ℕ) (result : Status)
+    (desk desk' : DeskView) (out out' : SinkView) : Type 0 where
+  pub repository : PackageList
+  pub read : PackagesStage desk.files limits packages (Goes repository)
+  pub number : ℕ
+  pub is_named : IsNamed repository.packages named number
+  pub explained : Explained
+  pub text : List ℕ
+  pub accepted : IsExplanation repository limits text (header_on number limit) explained
+  pub in_order : OfExplain repository number limit limits (λ g course. IsWholeText g course text)
+  pub files : desk'.files ≡ with_file desk.files cert text
+  pub means : ExplanationMeans repository (header_on number limit) explained
+  pub told : List ℕ
+  pub is_told : IsExplainedText repository number explained told
+  pub printed : Grew told out out'
+  pub status : result ≡ explained_status explained
+
 -- PACKAGES has a repository, and the file CERT was accepted over the space of its newest versions, whoever wrote it,
 -- with a header and an answer. What is answered of the package is true, and was printed. All files are as before.
 pub record ProvesCheckRepair (limits : Limits) (packages cert : List ℕ) (result : Status) (desk desk' : DeskView)
@@ -124,6 +151,27 @@ pub record ProvesCheckRepair (limits : Limits) (packages cert : List ℕ) (resul
   pub files : desk'.files ≡ desk.files
   pub says : AcceptedSays space header repair
   pub printed : Grew (repair_text space header.«package» repair) out out'
+  pub status : result ≡ repaired_status repair
+
+-- PACKAGES has a repository, one of whose newest versions the option names, and CERT holds a whole file of a repair of
+-- it, with the limit of the command and its most, which is accepted with this answer and asks none
+-- but the questions of the search, each at most once. What is answered is true, and was printed. All other files are
+-- as before.
+pub record ProvesRepair (limits : Limits) (packages cert named : List ℕ) (most limit : ℕ) (result : Status)
+    (desk desk' : DeskView) (out out' : SinkView) : Type 0 where
+  pub newest : PackageList
+  pub read : IsNewestIn desk.files limits packages newest
+  pub number : ℕ
+  pub is_named : IsNamed newest.packages named number
+  pub space : SpaceView
+  pub is_space : IsSpaceOf newest false space
+  pub repair : Repair
+  pub text : List ℕ
+  pub accepted : IsRepair space limits text (header_with limit number most) repair
+  pub in_order : OfRepair space (header_with limit number most) limits (λ g course. IsWholeText g course text)
+  pub files : desk'.files ≡ with_file desk.files cert text
+  pub says : AcceptedSays space (header_with limit number most) repair
+  pub printed : Grew (repair_text space number repair) out out'
   pub status : result ≡ repaired_status repair
 
 -- The newest versions of PACKAGES and of LATER, and the space of the first ones.
@@ -198,11 +246,23 @@ CheckIsProved words limits result desk desk' out out' = (packages cert : List �
     → command_of words ≡ Some (Check packages cert) → IsCarriedOut result
     → ProvesCheck limits packages cert result desk desk' out out'
 
+-- and of one of `explain`
+abbrev pub ExplainIsProved : List (List ℕ) → Limits → Status → DeskView → DeskView → SinkView → SinkView → Type 0
+ExplainIsProved words limits result desk desk' out out' = (packages cert named : List ℕ) (limit : ℕ)
+    → command_of words ≡ Some (Explain packages cert named limit) → IsCarriedOut result
+    → ProvesExplain limits packages cert named limit result desk desk' out out'
+
 -- and of one of `check-explain`
 abbrev pub CheckExplainIsProved : List (List ℕ) → Limits → Status → DeskView → DeskView → SinkView → SinkView → Type 0
 CheckExplainIsProved words limits result desk desk' out out' = (packages cert : List ℕ)
     → command_of words ≡ Some (CheckExplain packages cert) → IsCarriedOut result
     → ProvesCheckExplain limits packages cert result desk desk' out out'
+
+-- and of one of `repair`
+abbrev pub RepairIsProved : List (List ℕ) → Limits → Status → DeskView → DeskView → SinkView → SinkView → Type 0
+RepairIsProved words limits result desk desk' out out' = (packages cert named : List ℕ) (most limit : ℕ)
+    → command_of words ≡ Some (RepairLine packages cert named most limit) → IsCarriedOut result
+    → ProvesRepair limits packages cert named most limit result desk desk' out out'
 
 -- and of one of `check-repair`
 abbrev pub CheckRepairIsProved : List (List ℕ) → Limits → Status → DeskView → DeskView → SinkView → SinkView → Type 0

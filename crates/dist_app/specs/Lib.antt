@@ -9,6 +9,8 @@ pub mod Classes
 pub mod Command
 pub mod Complete
 pub mod DuePrivate
+pub mod Explain
+pub mod ExplainPrivate
 pub mod FaultText
 pub mod Follow
 pub mod FollowPrivate
@@ -16,8 +18,11 @@ pub mod Headline
 pub mod Health
 pub mod JournalText
 pub mod LaterPrivate
+pub mod NamedStage
 pub mod PackagesStage
 pub mod Refusal
+pub mod Repair
+pub mod RepairPrivate
 pub mod RepositoryStage
 pub mod Run
 pub mod SpaceStage
@@ -27,4 +32,5 @@ pub mod Steps
 pub mod Sweeps
 pub mod TextStage
 pub mod Try
+pub mod WrittenFile
 pub mod WritesPrivate

@@ -12,6 +12,7 @@ use Rattle.dist_app.specs.declared.status.Status.TheVariants as status
 use Rattle.dist_app.specs.declared.refusal.Refusal.{Refusal}
 use Rattle.dist_app.specs.declared.refusal.Refusal.TheVariants.{BadWords, BadPackages, CertificateRefused, ReadFault}
 use Rattle.dist_app.specs.declared.refusal.Refusal.TheVariants.{WriteFault, NoMemory, TooLarge, BadList, BadJournal}
+use Rattle.dist_app.specs.declared.refusal.Refusal.TheVariants.{NoSuchPackage}
 
 -- the status of a run that was given up for this
 abbrev pub status_of : Refusal → Status
@@ -24,6 +25,7 @@ status_of NoMemory = status.NoMemory
 status_of (TooLarge limit) = status.TooLarge
 status_of (BadList line) = status.BadList
 status_of (BadJournal line fault) = status.BadJournal
+status_of NoSuchPackage = status.NoSuchPackage
 
 -- the name of a limit
 abbrev pub limit_text : What → List ℕ
@@ -51,6 +53,7 @@ reason_text (TooLarge limit) = codes "too large: " ++ limit_text limit
 reason_text (BadList line) = codes "bad list at line " ++ decimal line
 reason_text (BadJournal line fault) = codes "bad journal at line "
     ++ (decimal line ++ (codes ": " ++ journal_fault_text fault))
+reason_text NoSuchPackage = codes "no such package"
 
 -- the line on `err`
 abbrev pub refusal_text : Refusal → List ℕ

@@ -4,7 +4,7 @@ use Rattle.dist_app.specs.declared.status.Status.{Status}
 use Rattle.dist_app.specs.declared.status.Status.TheVariants.{Done, DoneWithUndecided, BadWords, BadPackages}
 use Rattle.dist_app.specs.declared.status.Status.TheVariants.{CertificateRefused, ReadFault, WriteFault, NoMemory}
 use Rattle.dist_app.specs.declared.status.Status.TheVariants.{TooLarge, NotHealthy, BadList, BadJournal}
-use Rattle.dist_app.specs.declared.status.Status.TheVariants.{NotAFuture}
+use Rattle.dist_app.specs.declared.status.Status.TheVariants.{NotAFuture, NoSuchPackage}
 
 -- the number of a status
 abbrev pub number_of : Status → ℕ
@@ -21,3 +21,4 @@ number_of NotHealthy = 9
 number_of BadList = 10
 number_of BadJournal = 11
 number_of NotAFuture = 12
+number_of NoSuchPackage = 13

@@ -13,9 +13,11 @@ use crate::check_command::run_check;
 use crate::check_explain_command::run_check_explain;
 use crate::check_repair_command::run_check_repair;
 use crate::classes_command::run_classes;
+use crate::explain_command::run_explain;
 use crate::follow_command::run_follow;
 use crate::health_command::run_health;
 use crate::refusal::Refusal;
+use crate::repair_command::run_repair;
 use crate::steps_command::run_steps;
 use crate::sweep_command::run_sweep;
 use crate::try_command::run_try;
@@ -46,7 +48,9 @@ pub(crate) fn run_command<D: Desk>(
         Command::Sweep(words) => run_sweep(alloc, desk, words, limits),
         Command::Check(files) => run_check(alloc, desk, files, limits),
         Command::CheckExplain(files) => run_check_explain(alloc, desk, files, limits),
+        Command::Explain(words) => run_explain(alloc, desk, words, limits),
         Command::CheckRepair(files) => run_check_repair(alloc, desk, files, limits),
+        Command::Repair(words) => run_repair(alloc, desk, words, limits),
         Command::Try(words) => run_try(alloc, words, limits),
         Command::Steps(files) => run_steps(alloc, desk, files, limits),
         Command::Follow(files) => run_follow(alloc, desk, files, limits),

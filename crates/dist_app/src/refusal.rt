@@ -20,6 +20,7 @@ pub(crate) enum Refusal {
     TooLarge(What),
     BadList(u64),
     BadJournal(u64, JournalFault),
+    NoSuchPackage,
 }
 
 impl Refusal {
@@ -37,6 +38,7 @@ impl Refusal {
             Refusal::TooLarge(_) => Status::TooLarge,
             Refusal::BadList(_) => Status::BadList,
             Refusal::BadJournal(_, _) => Status::BadJournal,
+            Refusal::NoSuchPackage => Status::NoSuchPackage,
         }
     }
 }

@@ -99,6 +99,7 @@ fn write_reason<E: Sink>(err: &mut E, refusal: Refusal) -> Result<(), WorkError>
             write_pieces(err, &[b"bad list at line ", buffer.format(line).as_bytes()])
         }
         Refusal::BadJournal(line, fault) => write_journal_fault(err, line, fault),
+        Refusal::NoSuchPackage => write_whole(err, b"no such package"),
     }
 }
 

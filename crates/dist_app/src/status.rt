@@ -18,6 +18,7 @@ pub enum Status {
     BadList,
     BadJournal,
     NotAFuture,
+    NoSuchPackage,
 }
 
 impl Status {

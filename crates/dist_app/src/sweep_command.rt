@@ -7,10 +7,11 @@ ghost use Rattle.dist_sweep.specs.Sweep.{SweepAnswers, TellsFirst};
 ghost use Rattle.dist_words.specs.CommandLine.{Sweep};
 ghost use Rattle.dist_words.specs.Lines.{IsLimit};
 ghost use Rattle.dist_app.specs.Command.{CommandDecides};
-ghost use Rattle.dist_app.specs.DuePrivate.{LeavesDesk, Stops, SweepStops};
+ghost use Rattle.dist_app.specs.DuePrivate.{LeavesDesk, Stops, WritingStops};
 ghost use Rattle.dist_app.specs.Run.{IsWithinStated};
 ghost use Rattle.dist_app.specs.Stages.{Goes, answered};
-ghost use Rattle.dist_app.specs.Sweeps.{InputsStage, IsSwept};
+ghost use Rattle.dist_app.specs.Sweeps.{InputsStage, sweep_writing};
+ghost use Rattle.dist_app.specs.WrittenFile.{IsWritten};
 
 use crate::answer::Answer;
 use crate::claims::report;
@@ -59,10 +60,10 @@ fn sweep<D: Desk>(
     requires within_size { IsWithinSize repository.now }
     requires limit { IsLimit words.now.limit }
     ensures kept { IfOk result (λ _. InputsStage (D.view desk.old).files limits.now words.now.kind words.now.essential repository.now (Goes tt)) }
-    ensures swept { IfOk result (λ answer. IsSwept (D.view desk.old).files limits.now words.now.kind words.now.cert.now words.now.essential words.now.limit
-        repository.now (answered (D.view desk.new).files answer.status answer.text.items)) }
-    ensures stops { IfErr result (SweepStops repository.now words.now.kind words.now.essential words.now.limit limits.now words.now.cert.now
-        (D.view desk.old) (D.view desk.new)) }
+    ensures swept { IfOk result (λ answer. IsWritten (sweep_writing limits.now words.now.kind words.now.essential words.now.limit repository.now)
+        (D.view desk.old).files words.now.cert.now (answered (D.view desk.new).files answer.status answer.text.items)) }
+    ensures stops { IfErr result (WritingStops (sweep_writing limits.now words.now.kind words.now.essential words.now.limit repository.now)
+        words.now.cert.now (D.view desk.old) (D.view desk.new)) }
     ensures leaves { LeavesDesk (D.view desk.old) (D.view desk.new) }
 {
     match write_certificate(alloc, desk, repository, words, limits) {

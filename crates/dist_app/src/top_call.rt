@@ -2,7 +2,7 @@
 ghost use Rattle.std.specs.Prelude.{◌≡◌, ℕ, List, map, string_bytes, MatchResult};
 ghost use Rattle.dist_outside.specs.Files.{IsNotWriting};
 ghost use Rattle.dist_app.specs.Complete.{IsComplete};
-ghost use Rattle.dist_app.specs.Headline.{CheckExplainIsProved, CheckIsProved, CheckRepairIsProved, FollowIsProved, MarksAreTried, StepsAreProved, SweepIsProved, UndecidedAreHard};
+ghost use Rattle.dist_app.specs.Headline.{CheckExplainIsProved, CheckIsProved, CheckRepairIsProved, ExplainIsProved, FollowIsProved, MarksAreTried, RepairIsProved, StepsAreProved, SweepIsProved, UndecidedAreHard};
 ghost use Rattle.dist_app.specs.Run.{IsWithinStated, Leaves, Runs, stated_limits};
 ghost use Rattle.dist_app.specs.CarriedPrivate.{IsAnswered, IsRefused, Prints};
 
@@ -15,15 +15,16 @@ use dist_budget::budgets_are_enough;
 use dist_check::{
     accepted_claims_hold, marks_are_tried, texts_have_one_answer, undecided_questions_are_hard,
 };
-use dist_explain::explanations_have_one_answer;
+use dist_explain::{accepted_explanations_hold, explanations_have_one_answer};
 use dist_journal::journals_have_one_end;
-use dist_list::lists_are_exact;
+use dist_list::{lists_are_exact, names_are_exact};
 use dist_now::one_health;
 use dist_outside::{Desk, Limits, Sink, sink_grows, write_whole};
 use dist_package::packages_are_exact;
-use dist_repair::repairs_have_one_answer;
+use dist_repair::{accepted_repairs_hold, repairs_have_one_answer};
 use dist_repo::latest_is_one;
 use dist_space::spaces_are_one;
+use dist_space_clauses::space_clauses_are_one;
 use dist_subject::first_numbers_are_one;
 use dist_words::{WordsError, command_of};
 use std::alloc::Global;
@@ -45,7 +46,11 @@ pub fn run<D: Desk, W: Sink, E: Sink>(
         (W.view out.old) (W.view out.new) }
     ensures check { CheckIsProved (map string_bytes words.now) stated_limits result (D.view desk.old) (D.view desk.new)
         (W.view out.old) (W.view out.new) }
+    ensures explain { ExplainIsProved (map string_bytes words.now) stated_limits result (D.view desk.old) (D.view desk.new)
+        (W.view out.old) (W.view out.new) }
     ensures check_explain { CheckExplainIsProved (map string_bytes words.now) stated_limits result (D.view desk.old) (D.view desk.new)
+        (W.view out.old) (W.view out.new) }
+    ensures repair { RepairIsProved (map string_bytes words.now) stated_limits result (D.view desk.old) (D.view desk.new)
         (W.view out.old) (W.view out.new) }
     ensures check_repair { CheckRepairIsProved (map string_bytes words.now) stated_limits result (D.view desk.old) (D.view desk.new)
         (W.view out.old) (W.view out.new) }
@@ -78,7 +83,11 @@ pub fn run_with<D: Desk, W: Sink, E: Sink>(
         (W.view out.old) (W.view out.new) }
     ensures check { CheckIsProved (map string_bytes words.now) limits.now result (D.view desk.old) (D.view desk.new)
         (W.view out.old) (W.view out.new) }
+    ensures explain { ExplainIsProved (map string_bytes words.now) limits.now result (D.view desk.old) (D.view desk.new)
+        (W.view out.old) (W.view out.new) }
     ensures check_explain { CheckExplainIsProved (map string_bytes words.now) limits.now result (D.view desk.old) (D.view desk.new)
+        (W.view out.old) (W.view out.new) }
+    ensures repair { RepairIsProved (map string_bytes words.now) limits.now result (D.view desk.old) (D.view desk.new)
         (W.view out.old) (W.view out.new) }
     ensures check_repair { CheckRepairIsProved (map string_bytes words.now) limits.now result (D.view desk.old) (D.view desk.new)
         (W.view out.old) (W.view out.new) }
@@ -98,11 +107,15 @@ pub fn run_with<D: Desk, W: Sink, E: Sink>(
     explanations_have_one_answer();
     first_numbers_are_one();
     lists_are_exact();
+    names_are_exact();
     latest_is_one();
     spaces_are_one();
+    space_clauses_are_one();
     repairs_have_one_answer();
     journals_have_one_end();
     accepted_claims_hold();
+    accepted_explanations_hold();
+    accepted_repairs_hold();
     undecided_questions_are_hard();
     marks_are_tried();
     sink_grows();

@@ -120,7 +120,7 @@ module _ (laws : Numbers) (r : PackageList) (ordered : IsInOrder r.packages) (li
           omega (arith, passed.1, kept, all, count, literals)
       by w passed = passed
 
-  one-passed : (what other : What) → PassesFirst r limits what → PassesFirst r limits other → other ≡ what
+  pub one-passed : (what other : What) → PassesFirst r limits what → PassesFirst r limits other → other ≡ what
   one-passed what other (inl first) (inl second) = laws.one r Strong false limits what other ordered first second
   one-passed what other (inl first) (inr y) = absurd (none-present present r limits y.plain.clauses what y.are_clauses y.clauses_kept y.literals_kept first)
   one-passed what other (inr x) (inl second) = absurd (none-present present r limits x.plain.clauses other x.are_clauses x.clauses_kept x.literals_kept second)

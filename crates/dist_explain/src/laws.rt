@@ -1,6 +1,7 @@
 //! What clauses with selectors mean, and what an accepted file proves. The functions do nothing.
 ghost use Rattle.std.specs.Prelude.{◌≡◌, ◌≤◌, All, Bool, List, Result, false, ℕ};
 ghost use Rattle.dist_outside.specs.declared.limits.Limits.{Limits};
+ghost use Rattle.dist_outside.specs.declared.trouble.What.{What};
 ghost use Rattle.dist_outside.specs.declared.trouble.WorkError.{WorkError};
 ghost use Rattle.dist_clause.specs.Formula.{Literal};
 ghost use Rattle.dist_repo.specs.Order.{IsInOrder};
@@ -9,6 +10,7 @@ ghost use Rattle.dist_now.specs.PresentClauses.{ArePresentClauses, Demand};
 ghost use Rattle.dist_now.specs.Relations.{AreRelations};
 ghost use Rattle.dist_explain.specs.Answered.{AreAnswered, AreLast};
 ghost use Rattle.dist_explain.specs.NotesPrivate.{AreNotesOf, IsMarkedIn, NotesView};
+ghost use Rattle.dist_explain.specs.ExplanationFiles.{PassesFirst};
 ghost use Rattle.dist_explain.specs.Selectors.{AreExplainedByNoModel, AreModelsBySelectors};
 ghost use Rattle.dist_explain.specs.Verdicts.{AcceptedMeans, ExplanationAnswers, IsExplanation, IsOfText};
 ghost use Rattle.dist_explain.specs.declared.asked.Asked.{Asked};
@@ -56,10 +58,12 @@ pub fn marked_relations_are_answered()
         → All (IsMarkedIn asked numbers later) numbers → AreAnswered asked found }
 {}
 
-/// A text has one answer, but for a fault of reading and want of memory.
+/// A text has one answer, but for a fault of reading and want of memory, and what files are judged by passes one number first.
 pub fn explanations_have_one_answer()
-    ensures { (r : PackageList) (limits : Limits) (text : List ℕ) (result other : Result ExplainVerdict WorkError) → IsInOrder r.packages
+    ensures answer { (r : PackageList) (limits : Limits) (text : List ℕ) (result other : Result ExplainVerdict WorkError) → IsInOrder r.packages
         → ExplanationAnswers r limits text result → ExplanationAnswers r limits text other → IsOfText result → IsOfText other → other ≡ result }
+    ensures number { (r : PackageList) (limits : Limits) (what other : What) → IsInOrder r.packages → PassesFirst r limits what
+        → PassesFirst r limits other → other ≡ what }
 {
     forms_are_clear();
     present_clauses_are_one();

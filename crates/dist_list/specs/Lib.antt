@@ -1,4 +1,5 @@
 pub mod LineParts
 pub mod ListedPrivate
+pub mod NamedPackage
 pub mod OneAnswer
 pub mod PackageSet

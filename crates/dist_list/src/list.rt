@@ -65,7 +65,7 @@ fn shape_of(line: &[u8]) -> Shape<'_>
 }
 
 /// The package of a name and of a version that a text spells.
-fn package_of(
+pub(crate) fn package_of(
     alloc: Global,
     repository: &Repository,
     name: &[u8],

@@ -3,13 +3,14 @@
 #![tactic(auto)]
 
 pub mod check_explain_rows;
-pub mod check_repair_rows;
 pub mod check_rows;
 pub mod classes_rows;
 pub mod essential_rows;
+pub mod explain_rows;
 pub mod follow_rows;
 pub mod futures_rows;
 pub mod health_rows;
+pub mod repair_rows;
 mod row;
 mod running;
 pub mod steps_rows;

@@ -79,7 +79,7 @@ pub const CUT_SHORT: Row = Row {
 };
 
 /// Five packages in each of four groups, of which a set may have one, and a package that wants five of them.
-const GROUPS: &str = "Package: a1\nVersion: 1\nProvides: a\nConflicts: a\n
+pub const GROUPS: &str = "Package: a1\nVersion: 1\nProvides: a\nConflicts: a\n
 Package: a2\nVersion: 1\nProvides: a\nConflicts: a\n
 Package: a3\nVersion: 1\nProvides: a\nConflicts: a\n
 Package: a4\nVersion: 1\nProvides: a\nConflicts: a\n

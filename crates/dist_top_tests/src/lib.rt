@@ -4,8 +4,6 @@
 #[cfg(test)]
 mod check_explain_rows;
 #[cfg(test)]
-mod check_repair_rows;
-#[cfg(test)]
 mod check_rows;
 #[cfg(test)]
 mod classes_reports;
@@ -13,6 +11,8 @@ mod classes_reports;
 mod classes_rows;
 #[cfg(test)]
 mod essential_rows;
+#[cfg(test)]
+mod explain_rows;
 #[cfg(test)]
 mod follow_rows;
 #[cfg(test)]
@@ -23,6 +23,8 @@ mod futures_rows;
 mod health_rows;
 #[cfg(test)]
 mod memory_rows;
+#[cfg(test)]
+mod repair_rows;
 #[cfg(test)]
 mod status_rows;
 #[cfg(test)]

@@ -1,7 +1,7 @@
 //! Each status with its number and its line, but for want of memory, which has a file of its own.
 use dist_top_rows::{
-    Row, check_rows, classes_rows, follow_rows, health_rows, steps_rows, strong_rows, words_rows,
-    wrong_of,
+    Row, check_rows, classes_rows, explain_rows, follow_rows, health_rows, steps_rows, strong_rows,
+    words_rows, wrong_of,
 };
 use std::alloc::AllocError;
 use std::process::Abort;
@@ -20,6 +20,7 @@ const NUMBERED: &[(u8, Row)] = &[
     (10, health_rows::BAD_THIRD_LINE),
     (11, follow_rows::NOT_ABOVE),
     (12, steps_rows::MISFIT),
+    (13, explain_rows::NO_SUCH_PACKAGE),
 ];
 
 /// A row must come to what it says, and its status have this number.

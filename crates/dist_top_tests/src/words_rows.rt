@@ -3,7 +3,7 @@ use dist_top_rows::words_rows::{COMMAND, NO_COMMAND};
 use dist_top_rows::{Row, Table, first_wrong};
 use std::test::Fail;
 
-const NO_COMMANDS: [Row; 15] = [
+const NO_COMMANDS: [Row; 19] = [
     Row {
         words: &[],
         ..NO_COMMAND
@@ -27,6 +27,28 @@ const NO_COMMANDS: [Row; 15] = [
     },
     Row {
         words: &["check-explain", "packages", "list", "--limit", "3"],
+        ..NO_COMMAND
+    },
+    Row {
+        words: &["explain", "packages", "list"],
+        ..NO_COMMAND
+    },
+    Row {
+        words: &[
+            "explain",
+            "packages",
+            "list",
+            "--package=a=1",
+            "--essential",
+        ],
+        ..NO_COMMAND
+    },
+    Row {
+        words: &["explain", "packages", "list", "--package=a=1", "--most=1"],
+        ..NO_COMMAND
+    },
+    Row {
+        words: &["strong", "packages", "list", "--package=a=1"],
         ..NO_COMMAND
     },
     Row {

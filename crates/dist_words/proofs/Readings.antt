@@ -20,6 +20,7 @@ use Rattle.clap.proofs.WalkLemmas.{one_text-rows}
 use Rattle.dist_base.specs.declared.TheConstants.{MAX_LIMIT, MAX_SIZE}
 use Rattle.dist_words.specs.Clap.{Options as Chosen, option_number, options_of, simple_command, taken_of}
 use Rattle.dist_words.specs.Lines.{IsLimit, IsSize}
+use Rattle.dist_words.specs.declared.TheConstants.{MAX_MOST}
 use Rattle.dist_words.specs.SimpleCommandPrivate.{IsMatched}
 use Rattle.dist_words.specs.Table.{accepted, in_table}
 use Rattle.dist_words.proofs.Chain.{alone, read_passes}
@@ -44,11 +45,11 @@ at_place (x ∷ xs) (suc k) d lt = at_place xs k d (omega arith)
 
 -- the argument of this place has this rule, and an id of its own
 pub record IsAt (k : ℕ) (rule : Rule) : Type 0 where
-  pub within : k < 6
+  pub within : k < 8
   pub is : (d : Rule) → slice_index_or simple_command.top.rules k d ≡ rule
   pub own : alone k rule.id simple_command.top.rules ≡ true
 
-some_arg : (xs : List Arg) → length xs ≡ 6 → Arg
+some_arg : (xs : List Arg) → length xs ≡ 8 → Arg
 some_arg [] len = absurd (omega arith)
 some_arg (x ∷ xs) len = x
 
@@ -58,7 +59,7 @@ pub passes : (m : ArgMatches) → IsMatched m → (k : ℕ) (rule : Rule) → Is
 passes m matched k rule at q parser t is =
     let s = matched.simple in
     let xs = s.arguments in
-    let len : length xs ≡ 6 = sym (length-map xs rule_of) ∙ ap length s.rules in
+    let len : length xs ≡ 8 = sym (length-map xs rule_of) ∙ ap length s.rules in
     let d = some_arg xs len in
     let lt : k < length xs = omega (arith, at.within, len) in
     let here : rule_of (slice_index_or xs k d) ≡ rule = at_place xs k d lt ∙ ap (λ rs. slice_index_or rs k (rule_of d)) s.rules ∙ at.is (rule_of d) in
@@ -131,6 +132,10 @@ flag_read m matched k rule at parser r none if_true if_false = go (one_text (fou
 pub size_of : (r : Option ℕ) → IfSome r (λ n. (1 ≤ n) × (n ≤ MAX_SIZE)) → IfSome r IsSize
 size_of None h = tt
 size_of (Some n) (least, greatest) = record { least = least; greatest = greatest }
+
+pub most_of : (r : Option ℕ) → IfSome r (λ n. (0 ≤ n) × (n ≤ MAX_MOST)) → IfSome r (λ n. n ≤ MAX_MOST)
+most_of None h = tt
+most_of (Some n) (least, greatest) = greatest
 
 pub limit_of : (r : Option ℕ) → IfSome r (λ n. (1 ≤ n) × (n ≤ MAX_LIMIT)) → IfSome r IsLimit
 limit_of None h = tt

@@ -1,5 +1,5 @@
 -- What `clap` makes of the words: one simple command, with a positional `command`, a last positional `files` of several
--- values, three options that take a number, and a flag. It has neither a help nor a version flag.
+-- values, four options that take a number, one that takes a text, and a flag. It has neither a help nor a version flag.
 use Rattle.std.specs.Prelude.{ℕ, Bool, true, List, [], ◌∷◌, Option, Some, codes, option_map, unwrap_or, pos}
 use Rattle.std.specs.Str.{bytes_eq}
 use Rattle.std.specs.Str.Parse.{digits_value, without_leading_plus}
@@ -8,6 +8,7 @@ use Rattle.clap.specs.Walk.{Row, Rule, Text, all_of, first_of, one_of}
 use Rattle.clap.specs.declared.builder.action.ArgAction.TheVariants.{Set, Append, SetTrue}
 use Rattle.clap.specs.declared.builder.value_parser.ValueParser.TheVariants as values
 use Rattle.dist_base.specs.declared.TheConstants.{MAX_LIMIT, MAX_SIZE}
+use Rattle.dist_words.specs.declared.TheConstants.{MAX_MOST}
 
 -- an option that takes a number within bounds
 abbrev pub number_option : Text → (least greatest : ℕ) → Rule
@@ -30,13 +31,17 @@ essential_rule = record (new_rule (codes "essential")) {
   parser = Some values.Bool;
 }
 
+abbrev pub package_rule : Rule
+package_rule = record (new_rule (codes "package")) { long = Some (codes "package"); action = Some Set }
+
 -- the simple command. Its words stand after the program's name.
 abbrev pub simple_command : App
 simple_command = record {
   top = record (new_shape (codes "distfuture")) {
     rules = command_rule ∷ files_rule ∷ number_option (codes "limit") 1 MAX_LIMIT
         ∷ number_option (codes "size") 1 MAX_SIZE
-        ∷ number_option (codes "seed") 0 4294967295 ∷ essential_rule ∷ [];
+        ∷ number_option (codes "seed") 0 4294967295 ∷ essential_rule ∷ package_rule
+        ∷ number_option (codes "most") 0 MAX_MOST ∷ [];
     no_binary_name = true;
     disable_help_flag = true;
     disable_version_flag = true;
@@ -46,11 +51,13 @@ simple_command = record {
 
 -- ---- the words as they were taken
 
--- the numbers of the options that stand, and whether the flag stands
+-- the numbers of the options that stand, the text that names a package, and whether the flag stands
 pub record Options : Type 0 where
   pub limit : Option ℕ
   pub size : Option ℕ
   pub seed : Option ℕ
+  pub named : Option Text
+  pub most : Option ℕ
   pub essential : Bool
 
 -- a command's word, the names of files, and the options
@@ -68,6 +75,8 @@ options_of rows = record {
   limit = option_number (codes "limit") rows;
   size = option_number (codes "size") rows;
   seed = option_number (codes "seed") rows;
+  named = first_of (codes "package") rows;
+  most = option_number (codes "most") rows;
   essential = bytes_eq (unwrap_or (one_of (codes "essential") rows) []) (codes "true");
 }
 

@@ -8,21 +8,24 @@
 --   challenged       PACKAGES CERT            --limit, --essential
 --   check            PACKAGES CERT            none
 --   check-explain    PACKAGES CERT            none
+--   explain          PACKAGES CERT            --package, needed, and --limit
 --   check-repair     PACKAGES CERT            none
+--   repair           PACKAGES CERT            --package, needed, --most and --limit
 --   try              none                     --size and --seed, both needed
 --   steps            PACKAGES LATER           none
 --   follow           PACKAGES CERT JOURNAL    none
 use Rattle.std.specs.Prelude.{◌≡◌, ℕ, ◌&&◌, Bool, not, List, [], ◌∷◌, Option, Some, None, is_some, if◌then◌else◌, codes}
-use Rattle.std.specs.Prelude.{unwrap_or}
+use Rattle.std.specs.Prelude.{option_and_then, unwrap_or}
 use Rattle.std.specs.Str.{bytes_eq}
 use Rattle.dist_base.specs.declared.TheConstants.{DEFAULT_LIMIT}
 use Rattle.dist_cert.specs.declared.records.CertKind.{CertKind}
 use Rattle.dist_cert.specs.declared.records.CertKind.TheVariants.{Strong, Outdated, Challenged}
 use Rattle.clap.specs.Walk.{Text, is_empty}
 use Rattle.clap.specs.Faults.{fault_of}
+use Rattle.dist_words.specs.declared.TheConstants.{DEFAULT_MOST}
 use Rattle.dist_words.specs.Clap.{Options, Taken, simple_command, taken}
-use Rattle.dist_words.specs.CommandLine.{CommandLine, Health, Classes, Sweep, Check, CheckExplain, CheckRepair}
-use Rattle.dist_words.specs.CommandLine.{Try, Steps, Follow}
+use Rattle.dist_words.specs.CommandLine.{CommandLine, Health, Classes, Sweep, Check, CheckExplain, Explain}
+use Rattle.dist_words.specs.CommandLine.{CheckRepair, Repair, Try, Steps, Follow}
 
 -- ---- options
 
@@ -34,9 +37,13 @@ has_no_seed options = not (is_some options.size) && not (is_some options.seed)
 abbrev pub has_no_limit : Options → Bool
 has_no_limit options = not (is_some options.limit) && not options.essential
 
+-- no package is named, and nothing is counted
+abbrev pub names_none : Options → Bool
+names_none options = not (is_some options.named) && not (is_some options.most)
+
 -- no option stands
 abbrev pub has_no_option : Options → Bool
-has_no_option options = has_no_seed options && has_no_limit options
+has_no_option options = has_no_seed options && (has_no_limit options && names_none options)
 
 -- ---- files
 
@@ -73,7 +80,19 @@ sweep_with kind options packages cert =
 
 -- a command that sweeps
 abbrev pub swept : CertKind → List Text → Options → Option CommandLine
-swept kind files options = where_allowed (has_no_seed options) (with_two (sweep_with kind options) files)
+swept kind files options =
+    where_allowed (has_no_seed options && names_none options) (with_two (sweep_with kind options) files)
+
+-- a command on the package that its options name, if they name one
+abbrev pub explained : List Text → Options → Option CommandLine
+explained files options = where_allowed (has_no_seed options && (not options.essential && not (is_some options.most)))
+    (option_and_then (λ named. with_two (λ packages cert.
+    Explain packages cert named (unwrap_or options.limit DEFAULT_LIMIT)) files) options.named)
+
+abbrev pub repaired : List Text → Options → Option CommandLine
+repaired files options = where_allowed (has_no_seed options && not options.essential)
+    (option_and_then (λ named. with_two (λ packages cert. Repair packages cert named
+    (unwrap_or options.most DEFAULT_MOST) (unwrap_or options.limit DEFAULT_LIMIT)) files) options.named)
 
 -- with a size and a seed
 abbrev pub seeded : Option ℕ → Option ℕ → Option CommandLine
@@ -91,13 +110,15 @@ in_table word files options =
     else (if bytes_eq word (codes "check") then where_allowed (has_no_option options) (with_two Check files)
     else (if bytes_eq word (codes "check-explain") then where_allowed (has_no_option options)
     (with_two CheckExplain files)
+    else (if bytes_eq word (codes "explain") then explained files options
     else (if bytes_eq word (codes "check-repair") then where_allowed (has_no_option options)
     (with_two CheckRepair files)
-    else (if bytes_eq word (codes "try") then where_allowed (has_no_limit options)
+    else (if bytes_eq word (codes "repair") then repaired files options
+    else (if bytes_eq word (codes "try") then where_allowed (has_no_limit options && names_none options)
     (with_none (seeded options.size options.seed) files)
     else (if bytes_eq word (codes "steps") then where_allowed (has_no_option options) (with_two Steps files)
     else (if bytes_eq word (codes "follow") then where_allowed (has_no_option options) (with_three Follow files)
-    else None))))))))))
+    else None))))))))))))
 
 -- the command that the table has for what was taken
 abbrev pub accepted : Taken → Option CommandLine

@@ -5,10 +5,12 @@ ghost use Rattle.clap.specs.Matches.{found_of};
 ghost use Rattle.clap.specs.Simple.{matches_of};
 ghost use Rattle.clap.specs.Walk.{rows_of};
 ghost use Rattle.clap.specs.declared.builder.value_parser.ValueParser.TheVariants as values;
-ghost use Rattle.dist_words.specs.Clap.{command_rule, files_rule, essential_rule, number_option, simple_command};
+ghost use Rattle.dist_words.specs.Clap.{command_rule, files_rule, essential_rule, number_option, package_rule, simple_command};
 ghost use Rattle.dist_words.specs.SimpleCommandPrivate.{IsArg, IsMatched, IsSimpleCommand, IsStart};
+ghost use Rattle.dist_words.specs.declared.TheConstants.{MAX_MOST};
 ghost use Rattle.dist_words.specs.declared.error.WordsError.TheVariants.{BadWords};
 
+use crate::MAX_MOST;
 use crate::error::WordsError;
 use clap::builder::ValueParser;
 use clap::error::ErrorKind;
@@ -81,6 +83,26 @@ fn essential_flag<'a>(alloc: Global) -> Arg<'a>
         .value_parser(value_parser!(bool))
 }
 
+/// `--package`.
+fn package_option<'a>(alloc: Global) -> Arg<'a>
+    ensures { IsArg result package_rule }
+{
+    Arg::new(alloc, "package")
+        .long("package")
+        .action(ArgAction::Set)
+}
+
+/// `--most`.
+fn most_option<'a>(alloc: Global) -> Arg<'a>
+    ensures { IsArg result (number_option (codes "most") 0 MAX_MOST) }
+{
+    number_option(
+        alloc,
+        "most",
+        value_parser!(u32).range(0..=i64::from(MAX_MOST)),
+    )
+}
+
 /// The simple command without its arguments. Its words stand after the program's name, and it has neither a help nor a
 /// version flag.
 fn start<'a>(alloc: Global) -> Command<'a>
@@ -102,7 +124,9 @@ fn simple_command<'a>(alloc: Global) -> Result<Command<'a>, AllocError>
         .arg(limit_option(alloc))?
         .arg(size_option(alloc))?
         .arg(seed_option(alloc))?
-        .arg(essential_flag(alloc))
+        .arg(essential_flag(alloc))?
+        .arg(package_option(alloc))?
+        .arg(most_option(alloc))
 }
 
 /// The matches of the words, or why `clap` refused them.

@@ -8,7 +8,7 @@ pub struct HealthFiles<'a> {
     pub list: &'a str,
 }
 
-/// The two files of `check`, `check-explain` and `check-repair PACKAGES CERT`.
+/// The two files of `check`, of `check-explain` and of `check-repair PACKAGES CERT`.
 #[derive(Clone, Copy, Debug)]
 pub struct CertFiles<'a> {
     pub packages: &'a str,
@@ -24,6 +24,30 @@ pub struct SweepWords<'a> {
     pub cert: &'a str,
     /// Whether each installation has the essential names.
     pub essential: bool,
+    /// How many derived lines leave a question undecided.
+    pub limit: u32,
+}
+
+/// The files and the options of `explain PACKAGES CERT`.
+#[derive(Clone, Copy, Debug)]
+pub struct ExplainWords<'a> {
+    pub packages: &'a str,
+    pub cert: &'a str,
+    /// The text of `--package`, which names a package of PACKAGES.
+    pub named: &'a str,
+    /// How many derived lines leave a question undecided.
+    pub limit: u32,
+}
+
+/// The files and the options of `repair PACKAGES CERT`.
+#[derive(Clone, Copy, Debug)]
+pub struct RepairWords<'a> {
+    pub packages: &'a str,
+    pub cert: &'a str,
+    /// The text of `--package`, which names a package of the newest versions of PACKAGES.
+    pub named: &'a str,
+    /// To how many clusters is counted.
+    pub most: u32,
     /// How many derived lines leave a question undecided.
     pub limit: u32,
 }
@@ -59,7 +83,9 @@ pub enum Command<'a> {
     Sweep(SweepWords<'a>),
     Check(CertFiles<'a>),
     CheckExplain(CertFiles<'a>),
+    Explain(ExplainWords<'a>),
     CheckRepair(CertFiles<'a>),
+    Repair(RepairWords<'a>),
     Try(TryWords),
     Steps(StepsFiles<'a>),
     Follow(FollowFiles<'a>),

@@ -9,6 +9,15 @@ mod error;
 mod table;
 mod taken;
 
-pub use command::{CertFiles, Command, FollowFiles, HealthFiles, StepsFiles, SweepWords, TryWords};
+pub use command::{
+    CertFiles, Command, ExplainWords, FollowFiles, HealthFiles, RepairWords, StepsFiles,
+    SweepWords, TryWords,
+};
 pub use error::WordsError;
 pub use table::command_of;
+
+/// The most clusters that `--most` may count to.
+pub const MAX_MOST: u32 = 64;
+
+/// To how many clusters is counted where no option says it.
+pub const DEFAULT_MOST: u32 = 8;

@@ -1,17 +1,20 @@
 //! The table of the commands.
-ghost use Rattle.std.specs.Prelude.{◌≡◌, IfOk, IfSome, Err, Some, map, option_map, string_bytes};
+ghost use Rattle.std.specs.Prelude.{◌≡◌, ◌≤◌, ◌&&◌, IfOk, IfSome, Err, Some, map, option_map, string_bytes};
 ghost use Rattle.clap.specs.Matches.{found_of};
 ghost use Rattle.clap.specs.Walk.{rows_of};
 ghost use Rattle.dist_words.specs.Clap.{taken_of};
 ghost use Rattle.dist_words.specs.SimpleCommandPrivate.{IsMatched};
 ghost use Rattle.dist_words.specs.CommandLine.{Health, Classes, Check, CheckExplain, CheckRepair, Follow, Steps};
 ghost use Rattle.dist_words.specs.Lines.{HasLimit, IsLimit, IsSize, line_of, names, seen};
-ghost use Rattle.dist_words.specs.Table.{IsBadWords, accepted, command_of, in_table, has_no_limit, has_no_option, has_no_seed, seeded, swept, where_allowed, with_none, with_one, with_three, with_two};
+ghost use Rattle.dist_words.specs.Table.{IsBadWords, accepted, command_of, explained, in_table, has_no_limit, has_no_option, has_no_seed, names_none, repaired, seeded, swept, where_allowed, with_none, with_one, with_three, with_two};
+ghost use Rattle.dist_words.specs.declared.TheConstants.{MAX_MOST};
 ghost use Rattle.dist_words.specs.declared.error.WordsError.TheVariants.{BadWords};
 
+use crate::DEFAULT_MOST;
 use crate::clap_command::matches_of;
 use crate::command::{
-    CertFiles, Command, FollowFiles, HealthFiles, StepsFiles, SweepWords, TryWords,
+    CertFiles, Command, ExplainWords, FollowFiles, HealthFiles, RepairWords, StepsFiles,
+    SweepWords, TryWords,
 };
 use crate::error::WordsError;
 use crate::taken::{Options, options_of};
@@ -49,9 +52,10 @@ fn accepted<'a>(matches: &ArgMatches<'a>) -> Option<Command<'a>>
 }
 
 /// The command of a word.
-fn in_table<'a>(word: &str, files: &[&'a str], options: Options) -> Option<Command<'a>>
+fn in_table<'a>(word: &str, files: &[&'a str], options: Options<'a>) -> Option<Command<'a>>
     requires limit { IfSome options.limit IsLimit }
     requires size { IfSome options.size IsSize }
+    requires most { IfSome options.most (λ most. most ≤ MAX_MOST) }
     ensures command { option_map line_of result ≡ in_table word.now (names files.now) (seen options) }
     ensures limit { IfSome result HasLimit }
 {
@@ -69,8 +73,12 @@ fn in_table<'a>(word: &str, files: &[&'a str], options: Options) -> Option<Comma
         check(files, options)
     } else if word == "check-explain" {
         check_explain(files, options)
+    } else if word == "explain" {
+        explain(files, options)
     } else if word == "check-repair" {
         check_repair(files, options)
+    } else if word == "repair" {
+        repair(files, options)
     } else if word == "try" {
         seeded(files, options)
     } else if word == "steps" {
@@ -83,28 +91,35 @@ fn in_table<'a>(word: &str, files: &[&'a str], options: Options) -> Option<Comma
 }
 
 /// Neither a size nor a seed stands.
-fn has_no_seed(options: Options) -> bool
+fn has_no_seed(options: Options<'_>) -> bool
     ensures { result ≡ has_no_seed (seen options) }
 {
     options.size.is_none() && options.seed.is_none()
 }
 
 /// Neither a limit nor the flag stands.
-fn has_no_limit(options: Options) -> bool
+fn has_no_limit(options: Options<'_>) -> bool
     ensures { result ≡ has_no_limit (seen options) }
 {
     options.limit.is_none() && !options.essential
 }
 
+/// No package is named, and nothing is counted.
+fn names_none(options: Options<'_>) -> bool
+    ensures { result ≡ names_none (seen options) }
+{
+    options.named.is_none() && options.most.is_none()
+}
+
 /// No option stands.
-fn has_no_option(options: Options) -> bool
+fn has_no_option(options: Options<'_>) -> bool
     ensures { result ≡ has_no_option (seen options) }
 {
-    has_no_seed(options) && has_no_limit(options)
+    has_no_seed(options) && has_no_limit(options) && names_none(options)
 }
 
 /// `health PACKAGES LIST`.
-fn health<'a>(files: &[&'a str], options: Options) -> Option<Command<'a>>
+fn health<'a>(files: &[&'a str], options: Options<'_>) -> Option<Command<'a>>
     ensures { option_map line_of result ≡ where_allowed (has_no_option (seen options)) (with_two Health (names files.now)) }
 {
     match files {
@@ -116,7 +131,7 @@ fn health<'a>(files: &[&'a str], options: Options) -> Option<Command<'a>>
 }
 
 /// `classes PACKAGES`.
-fn classes<'a>(files: &[&'a str], options: Options) -> Option<Command<'a>>
+fn classes<'a>(files: &[&'a str], options: Options<'_>) -> Option<Command<'a>>
     ensures { option_map line_of result ≡ where_allowed (has_no_option (seen options)) (with_one Classes (names files.now)) }
 {
     match files {
@@ -126,25 +141,27 @@ fn classes<'a>(files: &[&'a str], options: Options) -> Option<Command<'a>>
 }
 
 /// `strong`, `outdated` or `challenged PACKAGES CERT`, by its kind.
-fn sweep<'a>(kind: CertKind, files: &[&'a str], options: Options) -> Option<Command<'a>>
+fn sweep<'a>(kind: CertKind, files: &[&'a str], options: Options<'_>) -> Option<Command<'a>>
     requires { IfSome options.limit IsLimit }
     ensures command { option_map line_of result ≡ swept kind (names files.now) (seen options) }
     ensures limit { IfSome result HasLimit }
 {
     match files {
-        [packages, cert] if has_no_seed(options) => Some(Command::Sweep(SweepWords {
-            kind,
-            packages,
-            cert,
-            essential: options.essential,
-            limit: options.limit.unwrap_or(DEFAULT_LIMIT),
-        })),
+        [packages, cert] if has_no_seed(options) && names_none(options) => {
+            Some(Command::Sweep(SweepWords {
+                kind,
+                packages,
+                cert,
+                essential: options.essential,
+                limit: options.limit.unwrap_or(DEFAULT_LIMIT),
+            }))
+        }
         _ => None,
     }
 }
 
 /// `check PACKAGES CERT`.
-fn check<'a>(files: &[&'a str], options: Options) -> Option<Command<'a>>
+fn check<'a>(files: &[&'a str], options: Options<'_>) -> Option<Command<'a>>
     ensures { option_map line_of result ≡ where_allowed (has_no_option (seen options)) (with_two Check (names files.now)) }
 {
     match files {
@@ -156,7 +173,7 @@ fn check<'a>(files: &[&'a str], options: Options) -> Option<Command<'a>>
 }
 
 /// `check-explain PACKAGES CERT`.
-fn check_explain<'a>(files: &[&'a str], options: Options) -> Option<Command<'a>>
+fn check_explain<'a>(files: &[&'a str], options: Options<'_>) -> Option<Command<'a>>
     ensures { option_map line_of result ≡ where_allowed (has_no_option (seen options)) (with_two CheckExplain (names files.now)) }
 {
     match files {
@@ -167,8 +184,28 @@ fn check_explain<'a>(files: &[&'a str], options: Options) -> Option<Command<'a>>
     }
 }
 
+/// `explain PACKAGES CERT`, with a package that is named.
+fn explain<'a>(files: &[&'a str], options: Options<'a>) -> Option<Command<'a>>
+    requires { IfSome options.limit IsLimit }
+    ensures command { option_map line_of result ≡ explained (names files.now) (seen options) }
+    ensures limit { IfSome result HasLimit }
+{
+    match (files, options.named) {
+        ([packages, cert], Some(named))
+            if has_no_seed(options) && !options.essential && options.most.is_none() => {
+            Some(Command::Explain(ExplainWords {
+                packages,
+                cert,
+                named,
+                limit: options.limit.unwrap_or(DEFAULT_LIMIT),
+            }))
+        }
+        _ => None,
+    }
+}
+
 /// `check-repair PACKAGES CERT`.
-fn check_repair<'a>(files: &[&'a str], options: Options) -> Option<Command<'a>>
+fn check_repair<'a>(files: &[&'a str], options: Options<'_>) -> Option<Command<'a>>
     ensures { option_map line_of result ≡ where_allowed (has_no_option (seen options)) (with_two CheckRepair (names files.now)) }
 {
     match files {
@@ -179,15 +216,36 @@ fn check_repair<'a>(files: &[&'a str], options: Options) -> Option<Command<'a>>
     }
 }
 
+/// `repair PACKAGES CERT`, with a package that is named.
+fn repair<'a>(files: &[&'a str], options: Options<'a>) -> Option<Command<'a>>
+    requires limit { IfSome options.limit IsLimit }
+    requires most { IfSome options.most (λ most. most ≤ MAX_MOST) }
+    ensures command { option_map line_of result ≡ repaired (names files.now) (seen options) }
+    ensures limit { IfSome result HasLimit }
+{
+    match (files, options.named) {
+        ([packages, cert], Some(named)) if has_no_seed(options) && !options.essential => {
+            Some(Command::Repair(RepairWords {
+                packages,
+                cert,
+                named,
+                most: options.most.unwrap_or(DEFAULT_MOST),
+                limit: options.limit.unwrap_or(DEFAULT_LIMIT),
+            }))
+        }
+        _ => None,
+    }
+}
+
 /// `try`, with a size and a seed.
-fn seeded<'a>(files: &[&'a str], options: Options) -> Option<Command<'a>>
+fn seeded<'a>(files: &[&'a str], options: Options<'_>) -> Option<Command<'a>>
     requires { IfSome options.size IsSize }
     ensures command { option_map line_of result
-        ≡ where_allowed (has_no_limit (seen options)) (with_none (seeded options.size options.seed) (names files.now)) }
+        ≡ where_allowed (has_no_limit (seen options) && names_none (seen options)) (with_none (seeded options.size options.seed) (names files.now)) }
     ensures limit { IfSome result HasLimit }
 {
     match (files, options.size, options.seed) {
-        ([], Some(size), Some(seed)) if has_no_limit(options) => {
+        ([], Some(size), Some(seed)) if has_no_limit(options) && names_none(options) => {
             Some(Command::Try(TryWords { size, seed }))
         }
         _ => None,
@@ -195,7 +253,7 @@ fn seeded<'a>(files: &[&'a str], options: Options) -> Option<Command<'a>>
 }
 
 /// `steps PACKAGES LATER`.
-fn steps<'a>(files: &[&'a str], options: Options) -> Option<Command<'a>>
+fn steps<'a>(files: &[&'a str], options: Options<'_>) -> Option<Command<'a>>
     ensures { option_map line_of result ≡ where_allowed (has_no_option (seen options)) (with_two Steps (names files.now)) }
 {
     match files {
@@ -207,7 +265,7 @@ fn steps<'a>(files: &[&'a str], options: Options) -> Option<Command<'a>>
 }
 
 /// `follow PACKAGES CERT JOURNAL`.
-fn follow<'a>(files: &[&'a str], options: Options) -> Option<Command<'a>>
+fn follow<'a>(files: &[&'a str], options: Options<'_>) -> Option<Command<'a>>
     ensures { option_map line_of result ≡ where_allowed (has_no_option (seen options)) (with_three Follow (names files.now)) }
 {
     match files {

@@ -1,6 +1,7 @@
 use Rattle.std.proofs.Common.{Global, map, string_bytes, subst}
 use Rattle.dist_outside.specs.declared.limits.Limits.{Limits}
-use Rattle.dist_app.specs.Headline.{CheckExplainIsProved, CheckRepairIsProved, FollowIsProved, MarksAreTried, StepsAreProved, UndecidedAreHard}
+use Rattle.dist_app.specs.Headline.{CheckExplainIsProved, CheckRepairIsProved, ExplainIsProved, FollowIsProved, RepairIsProved}
+use Rattle.dist_app.specs.Headline.{MarksAreTried, StepsAreProved, UndecidedAreHard}
 use Rattle.dist_app.proofs.top_call.run.Goals as goal
 
 pub returns-clause-check_explain : goal.returns-clause-check_explain
@@ -8,6 +9,18 @@ returns-clause-check_explain g c =
     subst (λ (limits : Limits). CheckExplainIsProved (map (string_bytes {Z = Global}) c.args.words.now) limits c.run_with.result
     (g.D.Desk.view c.args.desk.now) (g.D.Desk.view c.run_with.new.desk) (g.W.Sink.view c.args.out.now) (g.W.Sink.view c.run_with.new.out))
     c.stated.ensures c.run_with.ensures.check_explain
+
+pub returns-clause-explain : goal.returns-clause-explain
+returns-clause-explain g c =
+    subst (λ (limits : Limits). ExplainIsProved (map (string_bytes {Z = Global}) c.args.words.now) limits c.run_with.result
+    (g.D.Desk.view c.args.desk.now) (g.D.Desk.view c.run_with.new.desk) (g.W.Sink.view c.args.out.now) (g.W.Sink.view c.run_with.new.out))
+    c.stated.ensures c.run_with.ensures.explain
+
+pub returns-clause-repair : goal.returns-clause-repair
+returns-clause-repair g c =
+    subst (λ (limits : Limits). RepairIsProved (map (string_bytes {Z = Global}) c.args.words.now) limits c.run_with.result
+    (g.D.Desk.view c.args.desk.now) (g.D.Desk.view c.run_with.new.desk) (g.W.Sink.view c.args.out.now) (g.W.Sink.view c.run_with.new.out))
+    c.stated.ensures c.run_with.ensures.repair
 
 pub returns-clause-check_repair : goal.returns-clause-check_repair
 returns-clause-check_repair g c =

@@ -1,12 +1,13 @@
 use Rattle.std.proofs.Common.{map, string_bytes, subst, sym}
-use Rattle.dist_app.specs.Headline.{CheckExplainIsProved, CheckIsProved, CheckRepairIsProved, FollowIsProved, StepsAreProved, SweepIsProved}
+use Rattle.dist_app.specs.Headline.{CheckExplainIsProved, CheckIsProved, CheckRepairIsProved, ExplainIsProved, FollowIsProved}
+use Rattle.dist_app.specs.Headline.{RepairIsProved, StepsAreProved, SweepIsProved}
 use Rattle.dist_app.specs.Run.{Runs}
 use Rattle.dist_app.specs.declared.status.Status.{Status}
 use Rattle.dist_app.proofs.CommandLaws.{one-space}
 use Rattle.dist_app.proofs.Completes.{run_completes}
-use Rattle.dist_app.proofs.Headlines.{check_repair_proved, check_repair_refused}
-use Rattle.dist_app.proofs.Headlines.{check_explain_proved, check_explain_refused, check_proved, check_refused, follow_proved, follow_refused}
-use Rattle.dist_app.proofs.Headlines.{steps_proved, steps_refused, sweep_proved, sweep_refused}
+use Rattle.dist_app.proofs.Headlines.{check_explain_proved, check_explain_refused, check_proved, check_refused, explain_proved, explain_refused}
+use Rattle.dist_app.proofs.Headlines.{check_repair_proved, check_repair_refused, repair_proved, repair_refused}
+use Rattle.dist_app.proofs.Headlines.{follow_proved, follow_refused, steps_proved, steps_refused, sweep_proved, sweep_refused}
 use Rattle.dist_app.proofs.Runs.{answered_runs, refused_runs}
 use Rattle.dist_app.proofs.top_call.run_with.Goals as goal
 
@@ -16,10 +17,15 @@ returns-in-Ok-clause-runs g c =
       packages = c.packages_are_exact.ensures;
       lists = c.lists_are_exact.ensures;
       certificates = c.texts_have_one_answer.ensures;
-      explanations = c.explanations_have_one_answer.ensures;
-      repairs = c.repairs_have_one_answer.ensures;
+      explanations = c.explanations_have_one_answer.ensures.answer;
       numbers = c.first_numbers_are_one.ensures.one;
+      explain_numbers = c.explanations_have_one_answer.ensures.number;
+      names = c.names_are_exact.ensures;
       spaces = one-space c.latest_is_one.ensures.one c.spaces_are_one.ensures;
+      newest = c.latest_is_one.ensures.one;
+      space_of = c.spaces_are_one.ensures;
+      clauses = c.space_clauses_are_one.ensures;
+      repairs = c.repairs_have_one_answer.ensures;
       journals = c.journals_have_one_end.ensures;
     }) _
     c.args.limits.now c.in-Ok.status (g.D.Desk.view c.args.desk.now) (g.D.Desk.view c.carry_out.new.desk) (g.W.Sink.view c.args.out.now)
@@ -35,10 +41,15 @@ returns-in-Err-clause-runs g c =
       packages = c.packages_are_exact.ensures;
       lists = c.lists_are_exact.ensures;
       certificates = c.texts_have_one_answer.ensures;
-      explanations = c.explanations_have_one_answer.ensures;
-      repairs = c.repairs_have_one_answer.ensures;
+      explanations = c.explanations_have_one_answer.ensures.answer;
       numbers = c.first_numbers_are_one.ensures.one;
+      explain_numbers = c.explanations_have_one_answer.ensures.number;
+      names = c.names_are_exact.ensures;
       spaces = one-space c.latest_is_one.ensures.one c.spaces_are_one.ensures;
+      newest = c.latest_is_one.ensures.one;
+      space_of = c.spaces_are_one.ensures;
+      clauses = c.space_clauses_are_one.ensures;
+      repairs = c.repairs_have_one_answer.ensures;
       journals = c.journals_have_one_end.ensures;
     }) _
     c.args.limits.now (g.D.Desk.view c.args.desk.now) (g.D.Desk.view c.carry_out.new.desk) (g.W.Sink.view c.args.out.now) (g.W.Sink.view c.carry_out.new.out)
@@ -85,6 +96,34 @@ returns-in-Err-clause-check_explain g c =
     (g.D.Desk.view c.carry_out.new.desk) (g.W.Sink.view c.args.out.now) (g.W.Sink.view c.carry_out.new.out))
     (sym c.status-status.ensures)
     (check_explain_refused _ c.args.limits.now c.in-Err.refusal (g.D.Desk.view c.args.desk.now) (g.D.Desk.view c.carry_out.new.desk)
+    (g.W.Sink.view c.args.out.now) (g.W.Sink.view c.carry_out.new.out))
+
+pub returns-in-Ok-clause-explain : goal.returns-in-Ok-clause-explain
+returns-in-Ok-clause-explain g c =
+    explain_proved c.accepted_explanations_hold.ensures _ c.args.limits.now c.in-Ok.status (g.D.Desk.view c.args.desk.now)
+    (g.D.Desk.view c.carry_out.new.desk) (g.W.Sink.view c.args.out.now) (g.W.Sink.view c.carry_out.new.out)
+    c.in-Ok.ensures.ends
+
+pub returns-in-Err-clause-explain : goal.returns-in-Err-clause-explain
+returns-in-Err-clause-explain g c =
+    subst (λ (s : Status). ExplainIsProved (map string_bytes c.args.words.now) c.args.limits.now s (g.D.Desk.view c.args.desk.now)
+    (g.D.Desk.view c.carry_out.new.desk) (g.W.Sink.view c.args.out.now) (g.W.Sink.view c.carry_out.new.out))
+    (sym c.status-status.ensures)
+    (explain_refused _ c.args.limits.now c.in-Err.refusal (g.D.Desk.view c.args.desk.now) (g.D.Desk.view c.carry_out.new.desk)
+    (g.W.Sink.view c.args.out.now) (g.W.Sink.view c.carry_out.new.out))
+
+pub returns-in-Ok-clause-repair : goal.returns-in-Ok-clause-repair
+returns-in-Ok-clause-repair g c =
+    repair_proved c.accepted_repairs_hold.ensures _ c.args.limits.now c.in-Ok.status (g.D.Desk.view c.args.desk.now)
+    (g.D.Desk.view c.carry_out.new.desk) (g.W.Sink.view c.args.out.now) (g.W.Sink.view c.carry_out.new.out)
+    c.in-Ok.ensures.ends
+
+pub returns-in-Err-clause-repair : goal.returns-in-Err-clause-repair
+returns-in-Err-clause-repair g c =
+    subst (λ (s : Status). RepairIsProved (map string_bytes c.args.words.now) c.args.limits.now s (g.D.Desk.view c.args.desk.now)
+    (g.D.Desk.view c.carry_out.new.desk) (g.W.Sink.view c.args.out.now) (g.W.Sink.view c.carry_out.new.out))
+    (sym c.status-status.ensures)
+    (repair_refused _ c.args.limits.now c.in-Err.refusal (g.D.Desk.view c.args.desk.now) (g.D.Desk.view c.carry_out.new.desk)
     (g.W.Sink.view c.args.out.now) (g.W.Sink.view c.carry_out.new.out))
 
 pub returns-in-Ok-clause-check_repair : goal.returns-in-Ok-clause-check_repair
@@ -149,10 +188,15 @@ returns-in-Ok-clause-complete g c =
         packages = c.packages_are_exact.ensures;
         lists = c.lists_are_exact.ensures;
         certificates = c.texts_have_one_answer.ensures;
-        explanations = c.explanations_have_one_answer.ensures;
-        repairs = c.repairs_have_one_answer.ensures;
+        explanations = c.explanations_have_one_answer.ensures.answer;
         numbers = c.first_numbers_are_one.ensures.one;
+        explain_numbers = c.explanations_have_one_answer.ensures.number;
+        names = c.names_are_exact.ensures;
         spaces = one-space c.latest_is_one.ensures.one c.spaces_are_one.ensures;
+        newest = c.latest_is_one.ensures.one;
+        space_of = c.spaces_are_one.ensures;
+        clauses = c.space_clauses_are_one.ensures;
+        repairs = c.repairs_have_one_answer.ensures;
         journals = c.journals_have_one_end.ensures;
       };
       health = c.one_health.ensures;
@@ -171,10 +215,15 @@ returns-in-Err-clause-complete g c =
         packages = c.packages_are_exact.ensures;
         lists = c.lists_are_exact.ensures;
         certificates = c.texts_have_one_answer.ensures;
-        explanations = c.explanations_have_one_answer.ensures;
-        repairs = c.repairs_have_one_answer.ensures;
+        explanations = c.explanations_have_one_answer.ensures.answer;
         numbers = c.first_numbers_are_one.ensures.one;
+        explain_numbers = c.explanations_have_one_answer.ensures.number;
+        names = c.names_are_exact.ensures;
         spaces = one-space c.latest_is_one.ensures.one c.spaces_are_one.ensures;
+        newest = c.latest_is_one.ensures.one;
+        space_of = c.spaces_are_one.ensures;
+        clauses = c.space_clauses_are_one.ensures;
+        repairs = c.repairs_have_one_answer.ensures;
         journals = c.journals_have_one_end.ensures;
       };
       health = c.one_health.ensures;
