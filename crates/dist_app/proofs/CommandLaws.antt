@@ -27,28 +27,29 @@ use Rattle.dist_list.specs.NamedPackage.{IsNamed}
 use Rattle.dist_journal.specs.OneEnd.{HasOneEnd}
 use Rattle.dist_journal.specs.declared.fault.FollowError.{FollowError}
 use Rattle.dist_journal.specs.declared.fault.FollowError.TheVariants as follow_error
-use Rattle.dist_app.specs.Check.{CertificateAnswers, CertificateStage, Reports}
-use Rattle.dist_app.specs.CheckExplain.{ExplanationReads, ExplanationStage, TellsExplained}
-use Rattle.dist_app.specs.CheckRepair.{RepairReads, RepairStage, TellsRepair}
-use Rattle.dist_app.specs.Classes.{TellsClasses}
-use Rattle.dist_app.specs.Command.{CommandDecides, CommandRefuses, CommandIsGivenUp}
-use Rattle.dist_app.specs.Explain.{ExplainStages, Explains}
-use Rattle.dist_app.specs.Follow.{IsEndOfJournal, JournalStage, TellsFollowed}
-use Rattle.dist_app.specs.Health.{ListStage, Judges}
-use Rattle.dist_app.specs.NamedStage.{NamedStage}
-use Rattle.dist_app.specs.PackagesStage.{PackagesStage}
-use Rattle.dist_app.specs.Repair.{NewestStage, PlainSpaceStage, RepairStages, Repairs}
-use Rattle.dist_app.specs.RepositoryStage.{IsEndOf, RepositoryStage}
+use Rattle.dist_commands.specs.Check.{CertificateAnswers, CertificateStage, Reports}
+use Rattle.dist_commands.specs.CheckExplain.{ExplanationReads, ExplanationStage, TellsExplained}
+use Rattle.dist_commands.specs.CheckRepair.{RepairReads, RepairStage, TellsRepair}
+use Rattle.dist_commands.specs.Classes.{TellsClasses}
+use Rattle.dist_commands.specs.Command.{CommandDecides, CommandRefuses, CommandIsGivenUp}
+use Rattle.dist_commands.specs.Explain.{ExplainStages, Explains}
+use Rattle.dist_commands.specs.Follow.{IsEndOfJournal, JournalStage, TellsFollowed}
+use Rattle.dist_commands.specs.Health.{ListStage, Judges}
+use Rattle.dist_commands.specs.NamedStage.{NamedStage}
+use Rattle.dist_commands.specs.OneSpaceLaws.{HaveOneNewest, HaveOneSpace, HaveSpaceOnce}
+use Rattle.dist_commands.specs.PackagesStage.{PackagesStage}
+use Rattle.dist_commands.specs.Repair.{NewestStage, PlainSpaceStage, RepairStages, Repairs}
+use Rattle.dist_commands.specs.RepositoryStage.{IsEndOf, RepositoryStage}
 use Rattle.dist_app.specs.Run.{Decides, Refuses, IsRunGivenUp}
-use Rattle.dist_app.specs.Stages.{Ending, Goes, Ends, IsDetermined, Excludes, refused}
-use Rattle.dist_app.specs.SpaceStage.{IsSpaceOfFile, SpaceStage}
-use Rattle.dist_app.specs.Steps.{IsNewestIn, TellsLater}
-use Rattle.dist_app.specs.Sweeps.{InputsStage, SweepStages, Sweeps}
-use Rattle.dist_app.specs.TextStage.{TextStage}
-use Rattle.dist_app.specs.Try.{ArchiveStage}
-use Rattle.dist_app.specs.WrittenFile.{NumbersStage}
+use Rattle.dist_commands.specs.Stages.{Ending, Goes, Ends, IsDetermined, Excludes, refused}
+use Rattle.dist_commands.specs.SpaceStage.{IsSpaceOfFile, SpaceStage}
+use Rattle.dist_commands.specs.Steps.{IsNewestIn, TellsLater}
+use Rattle.dist_commands.specs.Sweeps.{InputsStage, SweepStages, Sweeps}
+use Rattle.dist_commands.specs.TextStage.{TextStage}
+use Rattle.dist_commands.specs.Try.{ArchiveStage}
+use Rattle.dist_commands.specs.WrittenFile.{NumbersStage}
 use Rattle.dist_generate.specs.Generator.{generated}
-use Rattle.dist_app.specs.declared.refusal.Refusal.TheVariants as refusal
+use Rattle.dist_commands.specs.declared.refusal.Refusal.TheVariants as refusal
 use Rattle.dist_app.proofs.Judgements.{check_determined}
 use Rattle.dist_app.proofs.OneVerdict.{HaveOneAnswer, HaveOneExplanation, HaveOneRepair, certificates_once, explanations_once}
 use Rattle.dist_app.proofs.OneVerdict.{repairs_once}
@@ -87,27 +88,9 @@ abbrev pub HaveOneName : Type 0
 HaveOneName = (packages : List Package) (text : List ℕ) (number other : ℕ) → IsInOrder packages → IsNamed packages text number
     → IsNamed packages text other → other ≡ number
 
--- a file has one space at a mode
-abbrev pub HaveOneSpace : Type 0
-HaveOneSpace = (r : PackageList) (essential : Bool) (s other : SpaceView) → IsSpaceOfFile essential r s → IsSpaceOfFile essential r other → other ≡ s
-
--- as the laws of newest versions and of spaces say
-pub one-space : ((r latest other : PackageList) → IsLatestOf r latest → IsLatestOf r other → other ≡ latest)
-    → ((r : PackageList) (essential : Bool) (s other : SpaceView) → IsSpaceOf r essential s → IsSpaceOf r essential other → other ≡ s) → HaveOneSpace
-one-space newest spaces r essential s other is is' =
-    spaces s.repository essential s other is.1
-    (subst (λ (x : PackageList). IsSpaceOf x essential other) (newest r s.repository other.repository is.0 is'.0) is'.1)
-
--- packages have one space at a mode, and a space one list of clauses
-abbrev pub HavePlainSpace : Type 0
-HavePlainSpace = (r : PackageList) (essential : Bool) (s other : SpaceView) → IsSpaceOf r essential s → IsSpaceOf r essential other → other ≡ s
-
+-- a space has one list of clauses
 abbrev pub HaveOneClauses : Type 0
 HaveOneClauses = (s : SpaceView) (clauses other : List (List Literal)) → AreSpaceClauses s clauses → AreSpaceClauses s other → other ≡ clauses
-
--- each file has its newest versions once
-abbrev pub HaveOneNewest : Type 0
-HaveOneNewest = (r latest other : PackageList) → IsLatestOf r latest → IsLatestOf r other → other ≡ latest
 
 -- a journal has one end
 abbrev pub HaveOneEnd : Type 0
@@ -125,7 +108,7 @@ pub record AreExact : Type 0 where
   pub names : HaveOneName
   pub spaces : HaveOneSpace
   pub newest : HaveOneNewest
-  pub space_of : HavePlainSpace
+  pub space_of : HaveSpaceOnce
   pub clauses : HaveOneClauses
   pub repairs : HaveOneRepair
   pub journals : HaveOneEnd
@@ -297,13 +280,13 @@ newest_determined exact files limits packages (Ends e) (Ends o) ends ends' =
     ap Ends (same_ending o e (packages_determined exact files limits packages (Ends e) (Ends o) ends ends'))
 
 -- a plain space that keeps its number passes none
-plain_kept : HavePlainSpace → (limits : Limits) (newest : PackageList) (s other : SpaceView) → IsSpaceOf newest false s
+plain_kept : HaveSpaceOnce → (limits : Limits) (newest : PackageList) (s other : SpaceView) → IsSpaceOf newest false s
     → length s.meanings ≤ limits.variables → IsSpaceOf newest false other → ¬ (limits.variables < length other.meanings)
 plain_kept one limits newest s other is within also more =
     let same = one newest false s other is also in
     omega (arith, ap (λ (x : SpaceView). length x.meanings) same, within, more)
 
-pub plain_determined : HavePlainSpace → (files : Option Files) (limits : Limits) (newest : PackageList)
+pub plain_determined : HaveSpaceOnce → (files : Option Files) (limits : Limits) (newest : PackageList)
     → IsDetermined (PlainSpaceStage files limits newest)
 plain_determined one files limits newest (Goes a) (Goes b) (is, within) (is', within') = ap Goes (one newest false a b is is')
 plain_determined one files limits newest (Goes a) (Ends e) (is, within) ((space, of, more), told) =

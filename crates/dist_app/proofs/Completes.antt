@@ -35,46 +35,46 @@ use Rattle.dist_trial.specs.Trial.{IsStoppedAt}
 use Rattle.dist_words.specs.CommandLine.{CommandLine, Health, Classes, Sweep, Check, CheckExplain, Explain, CheckRepair}
 use Rattle.dist_words.specs.CommandLine.{Repair as RepairLine, Try, Steps, Follow}
 use Rattle.dist_words.specs.Table.{command_of}
-use Rattle.dist_app.specs.Check.{CertificateAnswers, CertificateStage, Reports}
-use Rattle.dist_app.specs.CheckExplain.{ExplanationReads, ExplanationStage, TellsExplained, leaves_undecided}
-use Rattle.dist_app.specs.CheckRepair.{RepairReads, RepairStage, TellsRepair}
-use Rattle.dist_app.specs.CheckedFile.{IsOneAnswer}
-use Rattle.dist_app.specs.Claims.{has_mark, marked_status}
-use Rattle.dist_app.specs.Classes.{TellsClasses}
-use Rattle.dist_app.specs.Command.{CommandDecides, CommandIsGivenUp, IsApart}
+use Rattle.dist_commands.specs.Check.{CertificateAnswers, CertificateStage, Reports}
+use Rattle.dist_commands.specs.CheckExplain.{ExplanationReads, ExplanationStage, TellsExplained, leaves_undecided}
+use Rattle.dist_commands.specs.CheckRepair.{RepairReads, RepairStage, TellsRepair}
+use Rattle.dist_commands.specs.CheckedFile.{IsOneAnswer}
+use Rattle.dist_commands.specs.Claims.{has_mark, marked_status}
+use Rattle.dist_commands.specs.Classes.{TellsClasses}
+use Rattle.dist_commands.specs.Command.{CommandDecides, CommandIsGivenUp, IsApart}
 use Rattle.dist_app.specs.Complete.{Completes, ExplainComesTo, IsComplete, IsStatusOfFile, IsStatusOfJournal, IsStatusOfLater, IsStatusOfRefused, IsStatusOfSet}
 use Rattle.dist_app.specs.Complete.{IsUndisturbed, StopsBelowBudget, TrialIsComplete, stop_status, told_claims, told_explained}
 use Rattle.dist_app.specs.Complete.{RepairComesTo, told_repair}
-use Rattle.dist_app.specs.Explain.{Explains, explain_writing}
-use Rattle.dist_app.specs.Follow.{IsEndOfJournal, JournalStage, JournalStages, TellsFollowed}
+use Rattle.dist_commands.specs.Explain.{Explains, explain_writing}
+use Rattle.dist_commands.specs.Follow.{IsEndOfJournal, JournalStage, JournalStages, TellsFollowed}
+use Rattle.dist_commands.specs.FollowPrivate.{AfterCertificate}
 use Rattle.dist_app.specs.Headline.{IsCarriedOut}
-use Rattle.dist_app.specs.Health.{Judges, ListStage, ListStages, Tells}
-use Rattle.dist_app.specs.NamedStage.{NamedStage}
-use Rattle.dist_app.specs.PackagesStage.{PackagesStage}
-use Rattle.dist_app.specs.Repair.{NewestStage, PlainSpaceStage, Repairs, repair_writing}
+use Rattle.dist_commands.specs.Health.{Judges, ListStage, ListStages, Tells}
+use Rattle.dist_commands.specs.NamedStage.{NamedStage}
+use Rattle.dist_commands.specs.OneSpaceLaws.{HaveOneNewest}
+use Rattle.dist_commands.specs.PackagesStage.{PackagesStage}
+use Rattle.dist_commands.specs.Repair.{NewestStage, PlainSpaceStage, Repairs, repair_writing}
 use Rattle.dist_app.specs.Run.{Comes, Decides, IsRunGivenUp, Runs}
-use Rattle.dist_app.specs.Stages.{Ending, Goes, Then, answered}
-use Rattle.dist_app.specs.SpaceStage.{SpaceStage}
-use Rattle.dist_app.specs.Steps.{IsNewestIn, TellsLater}
-use Rattle.dist_app.specs.Sweeps.{InputsStage, Sweeps}
-use Rattle.dist_app.specs.TextStage.{TextStage}
-use Rattle.dist_app.specs.Try.{ArchiveStage, Tries}
-use Rattle.dist_app.specs.WrittenFile.{NumbersStage}
-use Rattle.dist_app.specs.declared.refusal.Refusal.{Refusal}
-use Rattle.dist_app.specs.declared.refusal.Refusal.TheVariants as refusal
-use Rattle.dist_app.specs.declared.status.Status.{Status}
-use Rattle.dist_app.specs.declared.status.Status.TheVariants.{Done, WriteFault, NoMemory, TooLarge, NotAFuture}
-use Rattle.dist_app.specs.declared.status.Status.TheVariants.{NoSuchPackage}
+use Rattle.dist_commands.specs.Stages.{Ending, Goes, Then, answered}
+use Rattle.dist_commands.specs.SpaceStage.{SpaceStage}
+use Rattle.dist_commands.specs.Steps.{IsNewestIn, TellsLater}
+use Rattle.dist_commands.specs.Sweeps.{InputsStage, Sweeps}
+use Rattle.dist_commands.specs.TextStage.{TextStage}
+use Rattle.dist_commands.specs.Try.{ArchiveStage, Tries}
+use Rattle.dist_commands.specs.WrittenFile.{NumbersStage}
+use Rattle.dist_commands.specs.declared.refusal.Refusal.{Refusal}
+use Rattle.dist_commands.specs.declared.refusal.Refusal.TheVariants as refusal
+use Rattle.dist_commands.specs.declared.status.Status.{Status}
+use Rattle.dist_commands.specs.declared.status.Status.TheVariants.{Done, WriteFault, NoMemory, TooLarge, NotAFuture}
+use Rattle.dist_commands.specs.declared.status.Status.TheVariants.{NoSuchPackage}
 use Rattle.dist_app.proofs.CommandLaws.{AreExact, one_line, archive_determined, inputs_determined, in_order, list_determined}
 use Rattle.dist_app.proofs.CommandLaws.{HaveOneEnd, certificate_determined, named_determined, numbers_determined, packages_determined}
 use Rattle.dist_app.proofs.CommandLaws.{counted_determined, newest_determined, newest_order, plain_determined, space_determined, text_determined}
-use Rattle.dist_app.proofs.FollowStages.{AfterCertificate}
 use Rattle.dist_app.proofs.Headlines.{of_line}
 use Rattle.dist_app.proofs.Judgements.{comes_to, judged_first}
 use Rattle.dist_app.proofs.OneVerdict.{certificates_once, explanations_once, repairs_once}
 use Rattle.dist_app.proofs.Refused.{mark_carried_out}
 use Rattle.dist_app.proofs.StageLaws.{then_goes}
-use Rattle.dist_app.proofs.StepsStages.{AreNewestOnce}
 
 -- a set has one health
 abbrev pub HaveOneHealth : Type 0
@@ -92,7 +92,6 @@ pub record Laws : Type 0 where
   pub texts : AreExact
   pub health : HaveOneHealth
   pub budgets : BudgetsSuffice
-  pub newest : AreNewestOnce
 
 -- the status of an end
 status_from : (e f : Ending) → e ≡ f → e.status ≡ f.status
@@ -251,6 +250,14 @@ check_repair_ends laws files limits packages cert r space ending read made decid
 
 -- ---- `explain`
 
+-- the rest of a run behind each stage
+module _ (limits : Limits) (cert named : List ℕ) (limit : ℕ) (files : Option Files) where
+  abbrev AfterNumber : PackageList → ℕ → Ending → Type 0
+  AfterNumber r number = Then (NumbersStage (ExplainPasses r limits) files) (λ _. Explains files limits cert limit r number)
+
+  abbrev AfterRead : PackageList → Ending → Type 0
+  AfterRead r = Then (NamedStage files r.packages named) (AfterNumber r)
+
 explain_ends : Laws → (files : Files) (limits : Limits) (packages cert named : List ℕ) (limit : ℕ) (r : PackageList) (ending : Ending)
     → PackagesStage (Some files) limits packages (Goes r) → CommandDecides (Explain packages cert named limit) (Some files) limits ending
     → ExplainComesTo limits cert named limit r ending.status (Some files) ending.files
@@ -259,24 +266,18 @@ explain_ends laws files limits packages cert named limit r ending read decides =
   one = λ number is_named kept. whole number
       (then_goes (NumbersStage (ExplainPasses r limits) (Some files)) (λ _. Explains (Some files) limits cert limit r number)
       (numbers_determined (ExplainPasses r limits) (λ what other. laws.texts.explain_numbers r limits what other order) (Some files)) tt kept ending
-      (then_goes (NamedStage (Some files) r.packages named)
-      (λ n. Then (NumbersStage (ExplainPasses r limits) (Some files)) (λ _. Explains (Some files) limits cert limit r n))
+      (then_goes (NamedStage (Some files) r.packages named) (AfterNumber limits cert named limit (Some files) r)
       (named_determined laws.texts.names (Some files) r.packages named order) number is_named ending rest));
 }
   where
     order : IsInOrder r.packages
     order = in_order (Some files) limits packages r read
 
-    abbrev Rest : Type 0
-    Rest = Then (NamedStage (Some files) r.packages named)
-        (λ n. Then (NumbersStage (ExplainPasses r limits) (Some files)) (λ _. Explains (Some files) limits cert limit r n)) ending
-
-    rest : Rest
-    rest = then_goes (PackagesStage (Some files) limits packages) (λ x. Then (NamedStage (Some files) x.packages named)
-        (λ n. Then (NumbersStage (ExplainPasses x limits) (Some files)) (λ _. Explains (Some files) limits cert limit x n)))
+    rest : AfterRead limits cert named limit (Some files) r ending
+    rest = then_goes (PackagesStage (Some files) limits packages) (AfterRead limits cert named limit (Some files))
         (packages_determined laws.texts files limits packages) r read ending decides
 
-    none : ((number : ℕ) → ¬ IsNamed r.packages named number) → Rest → ending.status ≡ NoSuchPackage
+    none : ((number : ℕ) → ¬ IsNamed r.packages named number) → AfterRead limits cert named limit (Some files) r ending → ending.status ≡ NoSuchPackage
     none nobody (inl (found, is)) = ap (λ (x : Ending). x.status) is
     none nobody (inr (number, is_named, after)) = absurd (nobody number is_named)
 
@@ -340,7 +341,7 @@ told_later files space l ending tells =
       | inr misfit ↦ inr (status_from ending (answered files NotAFuture (misfit_text misfit.misfit)) misfit.is, misfit.is_no_future)
     ]
 
-later_comes_to : AreNewestOnce → (files : Option Files) (space : SpaceView) (l newest_later : PackageList) (ending : Ending)
+later_comes_to : HaveOneNewest → (files : Option Files) (space : SpaceView) (l newest_later : PackageList) (ending : Ending)
     → IsLatestOf l newest_later → TellsLater files space l ending → IsStatusOfLater space.repository newest_later ending.status
 later_comes_to once files space l newest_later ending latest_later tells =
     subst (λ (x : PackageList). IsStatusOfLater space.repository x ending.status) (once l newest_later tells.later latest_later tells.is_newest)
@@ -352,7 +353,7 @@ steps_end : Laws → (files : Files) (limits : Limits) (packages later : List �
     → IsLatestOf l newest_later → CommandDecides (Steps packages later) (Some files) limits ending
     → IsStatusOfLater space.repository newest_later ending.status
 steps_end laws files limits packages later r l newest_later space ending read made read_later latest_later decides =
-    later_comes_to laws.newest (Some files) space l newest_later ending latest_later
+    later_comes_to laws.texts.newest (Some files) space l newest_later ending latest_later
     (then_goes (PackagesStage (Some files) limits later) (TellsLater (Some files) space) (packages_determined laws.texts files limits later) l read_later
     ending
     (then_goes (SpaceStage (Some files) limits false r) (λ s. Then (PackagesStage (Some files) limits later) (TellsLater (Some files) s))

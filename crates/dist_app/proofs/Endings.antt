@@ -10,15 +10,15 @@ use Rattle.dist_outside.specs.declared.trouble.WorkError.TheVariants as work
 use Rattle.dist_words.specs.CommandLine.{CommandLine}
 use Rattle.dist_words.specs.Table.{IsBadWords, command_of}
 use Rattle.dist_app.specs.CarriedPrivate.{IsAnswered, IsRefused, Prints}
-use Rattle.dist_app.specs.Command.{CommandDecides, CommandIsGivenUp, IsApart, OnlyReadsFiles}
-use Rattle.dist_app.specs.DuePrivate.{LeavesDesk, Stops}
-use Rattle.dist_app.specs.Refusal.{status_of, refusal_text, refusal_of}
+use Rattle.dist_commands.specs.Command.{CommandDecides, CommandIsGivenUp, IsApart, OnlyReadsFiles}
+use Rattle.dist_commands.specs.Stops.{LeavesDesk, Stops}
+use Rattle.dist_commands.specs.Refusal.{status_of, refusal_text, refusal_of}
 use Rattle.dist_app.specs.Run.{Comes, IsCutShort, Leaves}
-use Rattle.dist_app.specs.Stages.{refused, answered}
-use Rattle.dist_app.specs.declared.refusal.Refusal.{Refusal}
-use Rattle.dist_app.specs.declared.refusal.Refusal.TheVariants as refusal
-use Rattle.dist_app.specs.declared.status.Status.{Status}
-use Rattle.dist_app.specs.declared.status.Status.TheVariants.{WriteFault, NoMemory}
+use Rattle.dist_commands.specs.Stages.{refused, answered}
+use Rattle.dist_commands.specs.declared.refusal.Refusal.{Refusal}
+use Rattle.dist_commands.specs.declared.refusal.Refusal.TheVariants as refusal
+use Rattle.dist_commands.specs.declared.status.Status.{Status}
+use Rattle.dist_commands.specs.declared.status.Status.TheVariants.{WriteFault, NoMemory}
 use Rattle.dist_app.proofs.Refused.{not_read_fault, not_write_fault}
 
 -- ---- the desk

@@ -28,32 +28,32 @@ use Rattle.dist_words.specs.CommandLine.{CommandLine, Sweep, Check, CheckExplain
 use Rattle.dist_words.specs.CommandLine.{Repair as RepairLine, Steps, Follow}
 use Rattle.dist_words.specs.Table.{command_of}
 use Rattle.dist_app.specs.CarriedPrivate.{IsAnswered}
-use Rattle.dist_app.specs.Check.{CertificateAnswers, CertificateStage, CheckStages, Reports}
-use Rattle.dist_app.specs.CheckExplain.{CheckExplainStages, ExplanationReads, ExplanationStage, TellsExplained}
-use Rattle.dist_app.specs.CheckRepair.{CheckRepairStages, RepairReads, RepairStage, TellsRepair}
-use Rattle.dist_app.specs.Command.{CommandDecides}
-use Rattle.dist_app.specs.Explain.{ExplainStages, Explains, explain_writing, header_on}
-use Rattle.dist_app.specs.Follow.{FollowStages, TellsFollowed}
+use Rattle.dist_commands.specs.Check.{CertificateAnswers, CertificateStage, CheckStages, Reports}
+use Rattle.dist_commands.specs.CheckExplain.{CheckExplainStages, ExplanationReads, ExplanationStage, TellsExplained}
+use Rattle.dist_commands.specs.CheckRepair.{CheckRepairStages, RepairReads, RepairStage, TellsRepair}
+use Rattle.dist_commands.specs.Command.{CommandDecides}
+use Rattle.dist_commands.specs.Explain.{ExplainStages, Explains, explain_writing, header_on}
+use Rattle.dist_commands.specs.Follow.{FollowStages, TellsFollowed}
 use Rattle.dist_app.specs.Headline.{CheckExplainIsProved, CheckIsProved, ExplainIsProved, IsCarriedOut, ProvesCheck, ProvesCheckExplain}
 use Rattle.dist_app.specs.Headline.{AreCompared, FollowIsProved, ProvesExplain, ProvesFollow, ProvesMisfit, ProvesPlan, ProvesSweep}
 use Rattle.dist_app.specs.Headline.{CheckRepairIsProved, ProvesCheckRepair, ProvesRepair, RepairIsProved, StepsAreProved, SweepIsProved}
-use Rattle.dist_app.specs.PackagesStage.{PackagesStage}
-use Rattle.dist_app.specs.Refusal.{status_of}
-use Rattle.dist_app.specs.Repair.{RepairStages, Repairs, repair_writing}
+use Rattle.dist_commands.specs.PackagesStage.{PackagesStage}
+use Rattle.dist_commands.specs.Refusal.{status_of}
+use Rattle.dist_commands.specs.Repair.{RepairStages, Repairs, repair_writing}
 use Rattle.dist_app.specs.Run.{Decides}
-use Rattle.dist_app.specs.Stages.{Ending, Goes}
-use Rattle.dist_app.specs.SpaceStage.{IsSpaceOfFile, SpaceStage}
-use Rattle.dist_app.specs.Steps.{IsNewestIn, StepsStages, TellsLater}
-use Rattle.dist_app.specs.Sweeps.{SweepStages, Sweeps, sweep_writing}
-use Rattle.dist_app.specs.WrittenFile.{IsWritten}
-use Rattle.dist_app.specs.TextStage.{TextStage}
-use Rattle.dist_app.specs.declared.refusal.Refusal.{Refusal}
-use Rattle.dist_app.specs.declared.status.Status.{Status}
-use Rattle.dist_app.specs.declared.status.Status.TheVariants.{Done, NotAFuture}
+use Rattle.dist_commands.specs.Stages.{Ending, Goes}
+use Rattle.dist_commands.specs.SpaceStage.{IsSpaceOfFile, SpaceStage}
+use Rattle.dist_commands.specs.Steps.{IsNewestIn, StepsStages, TellsLater}
+use Rattle.dist_commands.specs.Sweeps.{SweepStages, Sweeps, sweep_writing}
+use Rattle.dist_commands.specs.WrittenFile.{IsWritten}
+use Rattle.dist_commands.specs.TextStage.{TextStage}
+use Rattle.dist_commands.specs.declared.refusal.Refusal.{Refusal}
+use Rattle.dist_commands.specs.declared.status.Status.{Status}
+use Rattle.dist_commands.specs.declared.status.Status.TheVariants.{Done, NotAFuture}
 use Rattle.dist_app.proofs.Refused.{IsRefusal, check_refuses, named_refuses, not_a_misfit, not_carried_out, numbers_refuse}
 use Rattle.dist_app.proofs.Refused.{packages_refuses, plain_space_refuses, refusal_not_a_misfit}
 use Rattle.dist_app.proofs.Refused.{journal_refuses, refusal_not_carried_out, space_refuses, text_refuses}
-use Rattle.dist_app.proofs.Sweeping.{ClaimsHold, sweep_means}
+use Rattle.dist_app.proofs.SweepMeanings.{ClaimsHold, sweep_means}
 
 -- words of a command decide by it
 pub of_line : (words : List (List ℕ)) (files : Option Files) (limits : Limits) (line : CommandLine) (ending : Ending) → command_of words ≡ Some line

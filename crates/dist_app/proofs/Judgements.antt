@@ -1,21 +1,17 @@
--- A file that is checked comes to one thing at most, and why a check is given up.
+-- A file that is checked comes to one thing at most.
 use Rattle.std.proofs.Common.{◌≡◌, ℕ, List, inl, inr, Option, Some, None, Result, Ok, Err, ap, sym, ◌∙◌, refl, subst}
 use Rattle.std.specs.Prelude.{IsSome}
 use Rattle.std.proofs.lemmas.Bool.{false≢true}
-use Rattle.dist_outside.specs.DeskView.{DeskView}
 use Rattle.dist_outside.specs.Files.{Files, IsPresent, file_bytes}
 use Rattle.dist_outside.specs.declared.trouble.WorkError.{WorkError}
 use Rattle.dist_outside.specs.declared.trouble.WorkError.TheVariants as work
 use Rattle.dist_cert.specs.declared.faults.ReadCertError.{ReadCertError}
 use Rattle.dist_cert.specs.declared.faults.ReadCertError.TheVariants.{Bad, Work}
-use Rattle.dist_judge.specs.Causes.{OnceRead, TextCause}
 use Rattle.dist_judge.specs.Judging.{OfText}
-use Rattle.dist_app.specs.CheckedFile.{CheckStage, IsEndOfError, IsJudged, IsOfText, IsOneAnswer}
+use Rattle.dist_commands.specs.CheckedFile.{CheckStage, IsEndOfError, IsJudged, IsOfText, IsOneAnswer}
 use Rattle.dist_app.specs.Complete.{IsStatusOfFile, IsStatusOfRefused, error_status}
-use Rattle.dist_app.specs.DuePrivate.{IsDue}
-use Rattle.dist_app.specs.Refusal.{refusal_of}
-use Rattle.dist_app.specs.Stages.{Ending, Goes, Ends, IsDetermined, Then}
-use Rattle.dist_app.specs.declared.status.Status.{Status}
+use Rattle.dist_commands.specs.Stages.{Ending, Goes, Ends, IsDetermined, Then}
+use Rattle.dist_commands.specs.declared.status.Status.{Status}
 
 -- ---- errors
 
@@ -105,15 +101,3 @@ module _ {X : Type 0} (Answers : List ℕ → Result X ReadCertError → Type 0)
     judged_first ending (inl (error, judged, end)) =
         (Err error, one_answer (Err error) judged (end_of_text X (Some files) error ending end), end_status (Some files) error ending end)
     judged_first ending (inr (x, judged, rest)) = (Ok x, one_answer (Ok x) judged tt, tt)
-
--- ---- a check that is given up
-
-pub check_due : {X : Type 0} (Answers : List ℕ → Result X ReadCertError → Type 0) (old new : DeskView) (name : List ℕ) (error : WorkError)
-    → OnceRead {X = X} (Err error) (IsPresent old.files name) → OfText (file_bytes old.files name) (λ text. Answers text (Err (Work error)))
-    → ((text : List ℕ) × Answers text (Err (Work error))) → TextCause old new (Work error)
-    → IsDue (λ ending. CheckStage Answers old.files name (Ends ending)) old new (refusal_of error)
-check_due Answers old new name work.ReadFault present answers some cause = inl (refl, cause)
-check_due Answers old new name work.WriteFault present answers some cause = absurd cause
-check_due Answers old new name work.NoMemory present answers some cause = inr (inl refl)
-check_due Answers old new name (work.TooLarge what) present answers some cause =
-    inr (inr (Work (work.TooLarge what), record { present = present; answers = answers; some = some }, refl))

@@ -1,26 +1,10 @@
-pub mod CertificateStages
-pub mod CommandLaws
-pub mod Chains
-pub mod Completes
-pub mod Due
-pub mod Endings
-pub mod ExplainLemmas
-pub mod FollowLemmas
-pub mod FollowStages
-pub mod Headlines
-pub mod HealthStages
-pub mod HealthTexts
-pub mod Judgements
-pub mod KindText
-pub mod LaterLemmas
-pub mod NewestLemmas
-pub mod OneVerdict
-pub mod Refused
-pub mod RepairLemmas
-pub mod Runs
-pub mod StageLaws
-pub mod StepsStages
-pub mod Sweeping
-pub mod Writing
-pub mod Writings
-mod Trying
+mod CommandLaws
+mod Completes
+mod Endings
+mod Headlines
+mod Judgements
+mod OneVerdict
+mod Refused
+mod Runs
+mod StageLaws
+mod SweepMeanings

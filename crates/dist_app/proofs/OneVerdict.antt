@@ -23,10 +23,10 @@ use Rattle.dist_repair.specs.declared.verdict.RepairHeader.{RepairHeader}
 use Rattle.dist_repair.specs.declared.verdict.RepairVerdict.{RepairVerdict}
 use Rattle.dist_repair.specs.declared.verdict.RepairVerdict.TheVariants as repair
 use Rattle.dist_space.specs.Space.{SpaceView}
-use Rattle.dist_app.specs.Check.{CertificateAnswers}
-use Rattle.dist_app.specs.CheckExplain.{ExplanationReads}
-use Rattle.dist_app.specs.CheckRepair.{RepairReads}
-use Rattle.dist_app.specs.CheckedFile.{IsOfText}
+use Rattle.dist_commands.specs.Check.{CertificateAnswers}
+use Rattle.dist_commands.specs.CheckExplain.{ExplanationReads}
+use Rattle.dist_commands.specs.CheckRepair.{RepairReads}
+use Rattle.dist_commands.specs.CheckedFile.{IsOfText}
 use Rattle.dist_app.proofs.Judgements.{AnswersOnce}
 
 -- ---- certificates

@@ -28,32 +28,32 @@ use Rattle.dist_subject.specs.Limited.{PassesFirst}
 use Rattle.dist_trial.specs.Summary.{has_marks}
 use Rattle.dist_words.specs.CommandLine.{CommandLine, Health, Classes, Sweep, Check, CheckExplain, Explain, CheckRepair}
 use Rattle.dist_words.specs.CommandLine.{Repair, Try, Steps, Follow}
-use Rattle.dist_app.specs.Check.{CertificateAnswers}
-use Rattle.dist_app.specs.CheckExplain.{ExplanationReads, leaves_undecided}
-use Rattle.dist_app.specs.CheckRepair.{RepairReads}
-use Rattle.dist_app.specs.CheckedFile.{CheckStage, IsEndOfError}
-use Rattle.dist_app.specs.Claims.{has_mark, marked_status}
-use Rattle.dist_app.specs.Command.{CommandDecides, CommandRefuses, CommandIsGivenUp}
-use Rattle.dist_app.specs.Follow.{IsEndOfJournal, JournalStage}
+use Rattle.dist_commands.specs.Check.{CertificateAnswers}
+use Rattle.dist_commands.specs.CheckExplain.{ExplanationReads, leaves_undecided}
+use Rattle.dist_commands.specs.CheckRepair.{RepairReads}
+use Rattle.dist_commands.specs.CheckedFile.{CheckStage, IsEndOfError}
+use Rattle.dist_commands.specs.Claims.{has_mark, marked_status}
+use Rattle.dist_commands.specs.Command.{CommandDecides, CommandRefuses, CommandIsGivenUp}
+use Rattle.dist_commands.specs.Follow.{IsEndOfJournal, JournalStage}
 use Rattle.dist_app.specs.Headline.{IsCarriedOut}
-use Rattle.dist_app.specs.Health.{ListStage, Tells}
-use Rattle.dist_app.specs.NamedStage.{NamedStage}
-use Rattle.dist_app.specs.PackagesStage.{PackagesStage}
-use Rattle.dist_app.specs.Refusal.{status_of, refusal_text}
-use Rattle.dist_app.specs.Repair.{PlainSpaceStage}
-use Rattle.dist_app.specs.RepositoryStage.{IsEndOf}
+use Rattle.dist_commands.specs.Health.{ListStage, Tells}
+use Rattle.dist_commands.specs.NamedStage.{NamedStage}
+use Rattle.dist_commands.specs.PackagesStage.{PackagesStage}
+use Rattle.dist_commands.specs.Refusal.{status_of, refusal_text}
+use Rattle.dist_commands.specs.Repair.{PlainSpaceStage}
+use Rattle.dist_commands.specs.RepositoryStage.{IsEndOf}
 use Rattle.dist_app.specs.Run.{Decides, Refuses}
-use Rattle.dist_app.specs.Stages.{Ending, Ends, answered, refused}
-use Rattle.dist_app.specs.SpaceStage.{SpaceStage}
-use Rattle.dist_app.specs.Steps.{TellsLater}
-use Rattle.dist_app.specs.TextStage.{TextStage}
-use Rattle.dist_app.specs.Try.{ArchiveStage}
-use Rattle.dist_app.specs.WrittenFile.{NumbersStage}
-use Rattle.dist_app.specs.declared.refusal.Refusal.{Refusal}
-use Rattle.dist_app.specs.declared.refusal.Refusal.TheVariants as refusal
-use Rattle.dist_app.specs.declared.status.Status.{Status}
-use Rattle.dist_app.specs.declared.status.Status.TheVariants.{Done, BadWords, ReadFault, WriteFault, NoMemory}
-use Rattle.dist_app.specs.declared.status.Status.TheVariants.{NotAFuture}
+use Rattle.dist_commands.specs.Stages.{Ending, Ends, answered, refused}
+use Rattle.dist_commands.specs.SpaceStage.{SpaceStage}
+use Rattle.dist_commands.specs.Steps.{TellsLater}
+use Rattle.dist_commands.specs.TextStage.{TextStage}
+use Rattle.dist_commands.specs.Try.{ArchiveStage}
+use Rattle.dist_commands.specs.WrittenFile.{NumbersStage}
+use Rattle.dist_commands.specs.declared.refusal.Refusal.{Refusal}
+use Rattle.dist_commands.specs.declared.refusal.Refusal.TheVariants as refusal
+use Rattle.dist_commands.specs.declared.status.Status.{Status}
+use Rattle.dist_commands.specs.declared.status.Status.TheVariants.{Done, BadWords, ReadFault, WriteFault, NoMemory}
+use Rattle.dist_commands.specs.declared.status.Status.TheVariants.{NotAFuture}
 
 -- the statuses that the files and the limits may decide
 abbrev pub IsOfFiles : Status → Type 0

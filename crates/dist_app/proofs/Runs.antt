@@ -10,14 +10,14 @@ use Rattle.dist_outside.specs.declared.trouble.WorkError.TheVariants as work
 use Rattle.dist_words.specs.CommandLine.{CommandLine}
 use Rattle.dist_words.specs.Table.{IsBadWords, command_of}
 use Rattle.dist_app.specs.CarriedPrivate.{IsAnswered, IsRefused}
-use Rattle.dist_app.specs.Refusal.{status_of, refusal_text}
+use Rattle.dist_commands.specs.Refusal.{status_of, refusal_text}
 use Rattle.dist_app.specs.Run.{Decides, Refuses, Comes, IsCutShort, IsRunGivenUp, IsInterrupted, IsTold, Leaves, TellsFiles, Runs}
-use Rattle.dist_app.specs.Stages.{Ending, Excludes}
-use Rattle.dist_app.specs.WritesPrivate.{Writes}
-use Rattle.dist_app.specs.declared.refusal.Refusal.{Refusal}
-use Rattle.dist_app.specs.declared.refusal.Refusal.TheVariants as refusal
-use Rattle.dist_app.specs.declared.status.Status.{Status}
-use Rattle.dist_app.specs.declared.status.Status.TheVariants.{BadWords, ReadFault, WriteFault, NoMemory}
+use Rattle.dist_commands.specs.Stages.{Ending, Excludes}
+use Rattle.dist_commands.specs.Writes.{Writes}
+use Rattle.dist_commands.specs.declared.refusal.Refusal.{Refusal}
+use Rattle.dist_commands.specs.declared.refusal.Refusal.TheVariants as refusal
+use Rattle.dist_commands.specs.declared.status.Status.{Status}
+use Rattle.dist_commands.specs.declared.status.Status.TheVariants.{BadWords, ReadFault, WriteFault, NoMemory}
 use Rattle.dist_app.proofs.CommandLaws.{AreExact, decides_excludes, fault_excludes}
 use Rattle.dist_app.proofs.Refused.{IsOfFiles, command_status, given_up_status, not_read_fault, not_write_fault, refuses_told}
 

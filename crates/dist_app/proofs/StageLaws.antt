@@ -1,6 +1,6 @@
 -- Laws of work in stages.
 use Rattle.std.proofs.Common.{◌≡◌, inl, inr, ap, sym, subst}
-use Rattle.dist_app.specs.Stages.{Ending, Step, Goes, Ends, Then, IsDetermined, Excludes}
+use Rattle.dist_commands.specs.Stages.{Ending, Step, Goes, Ends, Then, IsDetermined, Excludes}
 
 -- the end that a stage comes to, if it ends the run
 end_of : {X : Type 0} → Ending → Step X → Ending

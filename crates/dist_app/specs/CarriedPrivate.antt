@@ -5,13 +5,13 @@ use Rattle.dist_outside.specs.DeskView.{DeskView}
 use Rattle.dist_outside.specs.SinkView.{SinkView, Grew, GrewByFront, WriteCause}
 use Rattle.dist_outside.specs.declared.trouble.WorkError.{WorkError}
 use Rattle.dist_outside.specs.declared.limits.Limits.{Limits}
-use Rattle.dist_app.specs.Refusal.{status_of, refusal_text, refusal_of}
+use Rattle.dist_commands.specs.Refusal.{status_of, refusal_text, refusal_of}
 use Rattle.dist_app.specs.Run.{Decides, Comes, IsWriteFault}
 use Rattle.dist_words.specs.Table.{IsBadWords}
-use Rattle.dist_app.specs.Stages.{Ending}
-use Rattle.dist_app.specs.declared.status.Status.{Status}
-use Rattle.dist_app.specs.declared.refusal.Refusal.{Refusal}
-use Rattle.dist_app.specs.declared.refusal.Refusal.TheVariants.{BadWords, ReadFault, WriteFault, NoMemory}
+use Rattle.dist_commands.specs.Stages.{Ending}
+use Rattle.dist_commands.specs.declared.status.Status.{Status}
+use Rattle.dist_commands.specs.declared.refusal.Refusal.{Refusal}
+use Rattle.dist_commands.specs.declared.refusal.Refusal.TheVariants.{BadWords, ReadFault, WriteFault, NoMemory}
 
 -- an answer was decided and printed
 pub record IsAnswered (words : List (List ℕ)) (limits : Limits) (desk desk' : DeskView) (out out' : SinkView)

@@ -33,28 +33,28 @@ use Rattle.dist_journal.specs.declared.fault.FollowError.TheVariants as follow_e
 use Rattle.dist_words.specs.CommandLine.{Health, Classes, Sweep, Check, CheckExplain, Explain, CheckRepair}
 use Rattle.dist_words.specs.CommandLine.{Repair as RepairLine, Try, Steps, Follow}
 use Rattle.dist_words.specs.Table.{command_of}
-use Rattle.dist_app.specs.Check.{CertificateAnswers, CertificateStage}
-use Rattle.dist_app.specs.CheckExplain.{ExplanationReads, explained_status}
-use Rattle.dist_app.specs.CheckRepair.{RepairReads, repaired_status}
-use Rattle.dist_app.specs.CheckedFile.{IsOneAnswer}
-use Rattle.dist_app.specs.Claims.{claims_status}
-use Rattle.dist_app.specs.Explain.{explain_writing}
-use Rattle.dist_app.specs.Follow.{IsStoppedFor}
+use Rattle.dist_commands.specs.Check.{CertificateAnswers, CertificateStage}
+use Rattle.dist_commands.specs.CheckExplain.{ExplanationReads, explained_status}
+use Rattle.dist_commands.specs.CheckRepair.{RepairReads, repaired_status}
+use Rattle.dist_commands.specs.CheckedFile.{IsOneAnswer}
+use Rattle.dist_commands.specs.Claims.{claims_status}
+use Rattle.dist_commands.specs.Explain.{explain_writing}
+use Rattle.dist_commands.specs.Follow.{IsStoppedFor}
 use Rattle.dist_app.specs.Headline.{IsCarriedOut}
-use Rattle.dist_app.specs.Health.{ListStage}
-use Rattle.dist_app.specs.PackagesStage.{PackagesStage}
-use Rattle.dist_app.specs.Repair.{PlainSpaceStage, repair_writing}
+use Rattle.dist_commands.specs.Health.{ListStage}
+use Rattle.dist_commands.specs.PackagesStage.{PackagesStage}
+use Rattle.dist_commands.specs.Repair.{PlainSpaceStage, repair_writing}
 use Rattle.dist_app.specs.Run.{TellsFiles}
-use Rattle.dist_app.specs.SpaceStage.{SpaceStage}
-use Rattle.dist_app.specs.Stages.{Goes}
-use Rattle.dist_app.specs.Steps.{IsFutureArchive, IsNewestIn}
-use Rattle.dist_app.specs.Sweeps.{InputsStage}
-use Rattle.dist_app.specs.TextStage.{TextStage}
-use Rattle.dist_app.specs.Try.{ArchiveStage}
-use Rattle.dist_app.specs.WrittenFile.{NumbersStage}
-use Rattle.dist_app.specs.declared.status.Status.{Status}
-use Rattle.dist_app.specs.declared.status.Status.TheVariants.{Done, CertificateRefused, NoMemory, TooLarge, NotHealthy}
-use Rattle.dist_app.specs.declared.status.Status.TheVariants.{BadJournal, NotAFuture, NoSuchPackage}
+use Rattle.dist_commands.specs.SpaceStage.{SpaceStage}
+use Rattle.dist_commands.specs.Stages.{Goes}
+use Rattle.dist_commands.specs.Steps.{IsFutureArchive, IsNewestIn}
+use Rattle.dist_commands.specs.Sweeps.{InputsStage}
+use Rattle.dist_commands.specs.TextStage.{TextStage}
+use Rattle.dist_commands.specs.Try.{ArchiveStage}
+use Rattle.dist_commands.specs.WrittenFile.{NumbersStage}
+use Rattle.dist_commands.specs.declared.status.Status.{Status}
+use Rattle.dist_commands.specs.declared.status.Status.TheVariants.{Done, CertificateRefused, NoMemory, TooLarge, NotHealthy}
+use Rattle.dist_commands.specs.declared.status.Status.TheVariants.{BadJournal, NotAFuture, NoSuchPackage}
 
 -- The desk tells its files, and no fault of the desk or of `out` was counted.
 pub record IsUndisturbed (desk desk' : DeskView) (out out' : SinkView) : Type 0 where

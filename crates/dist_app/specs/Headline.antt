@@ -45,18 +45,18 @@ use Rattle.dist_history.specs.FollowText.{follow_text}
 use Rattle.dist_words.specs.CommandLine.{Sweep, Check, CheckExplain, Explain, CheckRepair}
 use Rattle.dist_words.specs.CommandLine.{Repair as RepairLine, Steps, Follow}
 use Rattle.dist_words.specs.Table.{command_of}
-use Rattle.dist_app.specs.CheckExplain.{explained_status}
-use Rattle.dist_app.specs.CheckRepair.{repaired_status}
-use Rattle.dist_app.specs.Claims.{IsReportOf, claims_status}
-use Rattle.dist_app.specs.Explain.{header_on}
-use Rattle.dist_app.specs.Follow.{AreToldBroken, IsFollowedWhole, StaysBroken}
-use Rattle.dist_app.specs.PackagesStage.{PackagesStage}
-use Rattle.dist_app.specs.SpaceStage.{IsSpaceOfFile}
-use Rattle.dist_app.specs.Stages.{Goes}
-use Rattle.dist_app.specs.Steps.{IsKeptAt, IsNewestIn}
-use Rattle.dist_app.specs.TextStage.{TextStage}
-use Rattle.dist_app.specs.declared.status.Status.{Status}
-use Rattle.dist_app.specs.declared.status.Status.TheVariants.{Done, DoneWithUndecided, NotAFuture}
+use Rattle.dist_commands.specs.CheckExplain.{explained_status}
+use Rattle.dist_commands.specs.CheckRepair.{repaired_status}
+use Rattle.dist_commands.specs.Claims.{IsReportOf, claims_status}
+use Rattle.dist_commands.specs.Explain.{header_on}
+use Rattle.dist_commands.specs.Follow.{AreToldBroken, IsFollowedWhole, StaysBroken}
+use Rattle.dist_commands.specs.PackagesStage.{PackagesStage}
+use Rattle.dist_commands.specs.SpaceStage.{IsSpaceOfFile}
+use Rattle.dist_commands.specs.Stages.{Goes}
+use Rattle.dist_commands.specs.Steps.{IsKeptAt, IsNewestIn}
+use Rattle.dist_commands.specs.TextStage.{TextStage}
+use Rattle.dist_commands.specs.declared.status.Status.{Status}
+use Rattle.dist_commands.specs.declared.status.Status.TheVariants.{Done, DoneWithUndecided, NotAFuture}
 
 -- the command was carried out
 abbrev pub IsCarriedOut : Status → Type 0

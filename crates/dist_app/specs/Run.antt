@@ -1,22 +1,20 @@
 -- What a run comes to, from its words, the files that the desk tells, and the limits.
 use Rattle.std.specs.Prelude.{◌≡◌, ◌⊎◌, ◌≤◌, ℕ, List, [], Option, Some}
 use Rattle.dist_base.specs.Front.{IsFrontOf}
-use Rattle.dist_base.specs.declared.TheConstants.{MAX_BYTES, MAX_STANZAS, MAX_VARIABLES, MAX_CLAUSES, MAX_LITERALS}
-use Rattle.dist_base.specs.declared.TheConstants.{MAX_LINES, MAX_LINE_LITERALS, MAX_CERTIFICATE, MAX_RECORD_LINE}
 use Rattle.dist_outside.specs.Counts.{Rose}
 use Rattle.dist_outside.specs.Files.{Files, IsNotWriting}
 use Rattle.dist_outside.specs.DeskView.{DeskView, OnlyReads}
 use Rattle.dist_outside.specs.SinkView.{SinkView, Grew, GrewByFront}
 use Rattle.dist_outside.specs.declared.limits.Limits.{Limits}
-use Rattle.dist_app.specs.Refusal.{status_of, refusal_text}
-use Rattle.dist_app.specs.Stages.{Ending, refused}
+use Rattle.dist_commands.specs.Refusal.{status_of, refusal_text}
+use Rattle.dist_commands.specs.Stages.{Ending, refused}
 use Rattle.dist_words.specs.CommandLine.{CommandLine}
 use Rattle.dist_words.specs.Table.{IsBadWords, command_of}
-use Rattle.dist_app.specs.Command.{CommandDecides, CommandRefuses, CommandIsGivenUp, IsApart, OnlyReadsFiles}
-use Rattle.dist_app.specs.declared.status.Status.{Status}
-use Rattle.dist_app.specs.declared.status.Status.TheVariants as status
-use Rattle.dist_app.specs.declared.refusal.Refusal.{Refusal}
-use Rattle.dist_app.specs.declared.refusal.Refusal.TheVariants.{BadWords, ReadFault, WriteFault, NoMemory}
+use Rattle.dist_commands.specs.Command.{CommandDecides, CommandRefuses, CommandIsGivenUp, IsApart, OnlyReadsFiles}
+use Rattle.dist_commands.specs.declared.status.Status.{Status}
+use Rattle.dist_commands.specs.declared.status.Status.TheVariants as status
+use Rattle.dist_commands.specs.declared.refusal.Refusal.{Refusal}
+use Rattle.dist_commands.specs.declared.refusal.Refusal.TheVariants.{BadWords, ReadFault, WriteFault, NoMemory}
 
 -- An end of the run that the words, the files and the limits decide.
 abbrev pub Decides : List (List ℕ) → Option Files → Limits → Ending → Type 0
@@ -123,29 +121,3 @@ pub record Runs (words : List (List ℕ)) (limits : Limits) (result : Status) (d
       → (ending ≡ end) ⊎ (result ≡ status.NoMemory)
   pub answer_comes : ¬ Rose desk.read_faults desk'.read_faults → ¬ Rose desk.write_faults desk'.write_faults
       → ¬ Rose out.faults out'.faults → Decides words desk.files limits ending ⊎ (result ≡ status.NoMemory)
-
--- the stated limits
-abbrev pub stated_limits : Limits
-stated_limits = record {
-  bytes = MAX_BYTES;
-  stanzas = MAX_STANZAS;
-  variables = MAX_VARIABLES;
-  clauses = MAX_CLAUSES;
-  literals = MAX_LITERALS;
-  lines = MAX_LINES;
-  line_literals = MAX_LINE_LITERALS;
-  certificate = MAX_CERTIFICATE;
-  record_line = MAX_RECORD_LINE;
-}
-
--- the limits are at most the stated ones
-pub record IsWithinStated (limits : Limits) : Type 0 where
-  pub bytes : limits.bytes ≤ MAX_BYTES
-  pub stanzas : limits.stanzas ≤ MAX_STANZAS
-  pub variables : limits.variables ≤ MAX_VARIABLES
-  pub clauses : limits.clauses ≤ MAX_CLAUSES
-  pub literals : limits.literals ≤ MAX_LITERALS
-  pub lines : limits.lines ≤ MAX_LINES
-  pub line_literals : limits.line_literals ≤ MAX_LINE_LITERALS
-  pub certificate : limits.certificate ≤ MAX_CERTIFICATE
-  pub record_line : limits.record_line ≤ MAX_RECORD_LINE

@@ -1,42 +1,10 @@
 //! The top call: a command from its words to its status. Its contract is the program's theorem.
 //!
-//! A command is a chain of stages (`specs/Stages.antt`), each of which goes on or ends the run; `specs/Run.antt` joins the
-//! commands. The work is that of the crates below. A change of what a command comes to begins in `specs/`.
+//! `specs/Run.antt` says what a run comes to, `specs/Headline.antt` what is proved of what it tells and writes, and
+//! `specs/Complete.antt` what it comes to where nothing is in its way. The commands are those of dist_commands.
 #![tactic(auto)]
 
-mod accepting;
-mod answer;
-mod cause_text;
-mod check_command;
-mod check_explain_command;
-mod check_repair_command;
-mod claims;
-mod classes_command;
-mod command;
-mod explain_command;
-mod explaining;
-mod fault_text;
-mod files;
-mod follow_command;
-mod followed;
-mod health;
-mod health_command;
-mod journal_text;
-mod later;
-mod laws;
-mod naming;
-mod pieces;
-mod refusal;
-mod refusal_text;
-mod repair_command;
-mod repairing;
-mod spaces;
-mod status;
-mod steps_command;
-mod sweep_command;
 mod top_call;
-mod try_command;
 
-pub use laws::{archives_have_reports, texts_have_verdicts};
-pub use status::Status;
+pub use dist_commands::Status;
 pub use top_call::{run, run_with};

@@ -1,20 +1,17 @@
 //! The top call.
 ghost use Rattle.std.specs.Prelude.{◌≡◌, ℕ, List, map, string_bytes, MatchResult};
 ghost use Rattle.dist_outside.specs.Files.{IsNotWriting};
+ghost use Rattle.dist_commands.specs.StatedLimits.{IsWithinStated, stated_limits};
 ghost use Rattle.dist_app.specs.Complete.{IsComplete};
 ghost use Rattle.dist_app.specs.Headline.{CheckExplainIsProved, CheckIsProved, CheckRepairIsProved, ExplainIsProved, FollowIsProved, MarksAreTried, RepairIsProved, StepsAreProved, SweepIsProved, UndecidedAreHard};
-ghost use Rattle.dist_app.specs.Run.{IsWithinStated, Leaves, Runs, stated_limits};
+ghost use Rattle.dist_app.specs.Run.{Leaves, Runs};
 ghost use Rattle.dist_app.specs.CarriedPrivate.{IsAnswered, IsRefused, Prints};
 
-use crate::answer::Answer;
-use crate::command::run_command;
-use crate::refusal::{Refusal, refusal_of};
-use crate::refusal_text::write_refusal;
-use crate::status::Status;
 use dist_budget::budgets_are_enough;
 use dist_check::{
     accepted_claims_hold, marks_are_tried, texts_have_one_answer, undecided_questions_are_hard,
 };
+use dist_commands::{Answer, Refusal, Status, refusal_of, run_command, write_refusal};
 use dist_explain::{accepted_explanations_hold, explanations_have_one_answer};
 use dist_journal::journals_have_one_end;
 use dist_list::{lists_are_exact, names_are_exact};

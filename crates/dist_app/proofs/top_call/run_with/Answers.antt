@@ -2,8 +2,8 @@ use Rattle.std.proofs.Common.{map, string_bytes, subst, sym}
 use Rattle.dist_app.specs.Headline.{CheckExplainIsProved, CheckIsProved, CheckRepairIsProved, ExplainIsProved, FollowIsProved}
 use Rattle.dist_app.specs.Headline.{RepairIsProved, StepsAreProved, SweepIsProved}
 use Rattle.dist_app.specs.Run.{Runs}
-use Rattle.dist_app.specs.declared.status.Status.{Status}
-use Rattle.dist_app.proofs.CommandLaws.{one-space}
+use Rattle.dist_commands.specs.declared.status.Status.{Status}
+use Rattle.dist_commands.specs.OneSpaceLaws.{one-space}
 use Rattle.dist_app.proofs.Completes.{run_completes}
 use Rattle.dist_app.proofs.Headlines.{check_explain_proved, check_explain_refused, check_proved, check_refused, explain_proved, explain_refused}
 use Rattle.dist_app.proofs.Headlines.{check_repair_proved, check_repair_refused, repair_proved, repair_refused}
@@ -201,7 +201,6 @@ returns-in-Ok-clause-complete g c =
       };
       health = c.one_health.ensures;
       budgets = c.budgets_are_enough.ensures;
-      newest = c.latest_is_one.ensures.one;
     })
     _ c.args.limits.now c.in-Ok.status (g.D.Desk.view c.args.desk.now) (g.D.Desk.view c.carry_out.new.desk) (g.W.Sink.view c.args.out.now)
     (g.W.Sink.view c.carry_out.new.out)
@@ -228,7 +227,6 @@ returns-in-Err-clause-complete g c =
       };
       health = c.one_health.ensures;
       budgets = c.budgets_are_enough.ensures;
-      newest = c.latest_is_one.ensures.one;
     })
     _ c.args.limits.now c.status-status.result (g.D.Desk.view c.args.desk.now) (g.D.Desk.view c.carry_out.new.desk) (g.W.Sink.view c.args.out.now)
     (g.W.Sink.view c.carry_out.new.out)

@@ -1,0 +1,19 @@
+pub mod AnswerTexts
+pub mod CertificateStages
+pub mod Chains
+pub mod CheckGivenUp
+pub mod Due
+pub mod ExplainLemmas
+pub mod FollowLemmas
+pub mod FollowStages
+pub mod HealthStages
+pub mod HealthTexts
+pub mod KindText
+pub mod LaterLemmas
+pub mod NewestLemmas
+pub mod RepairLemmas
+pub mod StepsStages
+pub mod Sweeping
+mod Trying
+pub mod Writing
+pub mod Writings

@@ -1,0 +1,27 @@
+use Rattle.dist_commands.specs.CheckRepair.{RepairStage, TellsRepair}
+use Rattle.dist_commands.specs.Stages.{Then}
+use Rattle.dist_commands.proofs.Due.{ok_more, err_more}
+use Rattle.dist_commands.proofs.StepsStages.{space-after, space-answers, space-unread}
+use Rattle.dist_commands.proofs.check_repair_command.run_check_repair.Goals as goal
+
+pub returns-in-Ok-clause-answers : goal.returns-in-Ok-clause-answers
+returns-in-Ok-clause-answers g c =
+    ok_more c.judge_repair.result _ _ (λ answer. space-answers
+    (λ files space. Then (RepairStage files c.args.limits.now c.args.files.now.cert.now space) (TellsRepair files space))
+    c.args.limits.now c.args.files.now.packages.now (g.D.Desk.view c.args.desk.now) (g.D.Desk.view c.read_space.new.desk)
+    c.in-Ok.space c.in-Ok.ensures.only_reads c.in-Ok.ensures.goes answer.status answer.text.items)
+    c.judge_repair.ensures.answers
+
+pub returns-in-Ok-clause-due : goal.returns-in-Ok-clause-due
+returns-in-Ok-clause-due g c =
+    err_more c.judge_repair.result _ _ (λ refusal. space-after
+    (λ files space. Then (RepairStage files c.args.limits.now c.args.files.now.cert.now space) (TellsRepair files space))
+    c.args.limits.now c.args.files.now.packages.now (g.D.Desk.view c.args.desk.now) (g.D.Desk.view c.read_space.new.desk)
+    c.in-Ok.space c.in-Ok.ensures.only_reads c.in-Ok.ensures.goes
+    (g.D.Desk.view c.judge_repair.new.desk) refusal c.judge_repair.ensures.only_reads) c.judge_repair.ensures.due
+
+pub returns-in-Err-clause-due : goal.returns-in-Err-clause-due
+returns-in-Err-clause-due g c =
+    space-unread (λ files space. Then (RepairStage files c.args.limits.now c.args.files.now.cert.now space) (TellsRepair files space))
+    c.args.limits.now c.args.files.now.packages.now (g.D.Desk.view c.args.desk.now) (g.D.Desk.view c.read_space.new.desk)
+    c.in-Err.refusal c.in-Err.ensures.due

@@ -1,0 +1,73 @@
+//! `check-explain PACKAGES CERT`, stage by stage.
+ghost use Rattle.std.specs.Prelude.{IfOk, IfErr};
+ghost use Rattle.dist_outside.specs.DeskView.{OnlyReads};
+ghost use Rattle.dist_outside.specs.Files.{IsNotWriting};
+ghost use Rattle.dist_repo.specs.Size.{IsWithinSize};
+ghost use Rattle.dist_commands.specs.CheckExplain.{CheckExplainStages, ExplanationStage, TellsExplained};
+ghost use Rattle.dist_commands.specs.DuePrivate.{IsDue};
+ghost use Rattle.dist_commands.specs.StatedLimits.{IsWithinStated};
+ghost use Rattle.dist_commands.specs.Stages.{Then, answered};
+
+use crate::accepting::accept_explanation;
+use crate::answer::Answer;
+use crate::explaining::tell_explained;
+use crate::files::read_repository;
+use crate::refusal::Refusal;
+use dist_outside::{Desk, Limits};
+use dist_repo::Repository;
+use dist_words::CertFiles;
+use std::alloc::Global;
+
+/// What the command answers, or why it was given up.
+pub(crate) fn run_check_explain<D: Desk>(
+    alloc: Global,
+    desk: &mut D,
+    files: &CertFiles<'_>,
+    limits: &Limits,
+) -> Result<Answer, Refusal>
+    requires not_writing { IsNotWriting (D.view desk.old).mode }
+    requires within { IsWithinStated limits.now }
+    ensures answers { IfOk result (λ answer. CheckExplainStages (D.view desk.old).files limits.now files.now.packages.now files.now.cert.now
+        (TellsExplained (D.view desk.old).files) (answered (D.view desk.old).files answer.status answer.text.items)) }
+    ensures due { IfErr result (IsDue (CheckExplainStages (D.view desk.old).files limits.now files.now.packages.now files.now.cert.now
+        (TellsExplained (D.view desk.old).files)) (D.view desk.old) (D.view desk.new)) }
+    ensures only_reads { OnlyReads (D.view desk.old) (D.view desk.new) }
+{
+    match read_repository(alloc, desk, files.packages, limits) {
+        Ok(repository) => judge_explanation(alloc, desk, &repository, files.cert, limits),
+        Err(refusal) => Err(refusal),
+    }
+}
+
+/// What the command answers once its repository is read.
+fn judge_explanation<D: Desk>(
+    alloc: Global,
+    desk: &mut D,
+    repository: &Repository,
+    cert: &str,
+    limits: &Limits,
+) -> Result<Answer, Refusal>
+    requires not_writing { IsNotWriting (D.view desk.old).mode }
+    requires within { IsWithinStated limits.now }
+    requires within_size { IsWithinSize repository.now }
+    ensures answers { IfOk result (λ answer. Then (ExplanationStage (D.view desk.old).files limits.now cert.now repository.now)
+        (TellsExplained (D.view desk.old).files repository.now) (answered (D.view desk.old).files answer.status answer.text.items)) }
+    ensures due { IfErr result (IsDue (Then (ExplanationStage (D.view desk.old).files limits.now cert.now repository.now)
+        (TellsExplained (D.view desk.old).files repository.now)) (D.view desk.old) (D.view desk.new)) }
+    ensures only_reads { OnlyReads (D.view desk.old) (D.view desk.new) }
+{
+    match accept_explanation(alloc, desk, repository, cert, limits) {
+        Ok(accepted) => {
+            match tell_explained(
+                alloc,
+                repository,
+                accepted.header.package,
+                &accepted.explained,
+            ) {
+                Ok(answer) => Ok(answer),
+                Err(_) => Err(Refusal::NoMemory),
+            }
+        }
+        Err(refusal) => Err(refusal),
+    }
+}
