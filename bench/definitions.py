@@ -163,7 +163,7 @@ CHAPTERS = [
     ("Made archives, and trials on them", ["dist_generate", "dist_trial"]),
     ("Files and streams", ["dist_base", "dist_outside"]),
     ("The command line", ["dist_words"]),
-    ("The commands, and the theorem", ["dist_app"]),
+    ("The commands, and the theorem", ["dist_commands", "dist_app"]),
     ("The benchmark program", ["dist_bench"]),
 ]
 HEAD = """# Definitions
