@@ -1,11 +1,13 @@
 //! The words of each command, and words that are of none.
 use dist_cert::CertKind;
 use dist_samples::words_of;
-use dist_words::{Command, FollowFiles, SweepWords, WordsError, command_of};
+use dist_words::{
+    Command, ExplainWords, FollowFiles, RepairWords, SweepWords, WordsError, command_of,
+};
 use std::alloc::Global;
 
-/// What is read of words: the kind and the options of a sweep of the files f and g, or another command of these files, or of f
-/// alone, or the size and the seed of a trial.
+/// What is read of words: the kind and the options of a sweep of the files f and g, or the options of a command on the package
+/// that is named a=1, or another command of these files, or of f alone, or the size and the seed of a trial.
 #[derive(Clone, Copy, PartialEq, Eq)]
 enum Told {
     Sweep(CertKind, u32, bool),
@@ -13,7 +15,9 @@ enum Told {
     Classes,
     Check,
     CheckExplain,
+    Explain(u32),
     CheckRepair,
+    Repair(u32, u32),
     Steps,
     Follow,
     Try(u32, u32),
@@ -38,6 +42,22 @@ fn sweep_of(read: &SweepWords<'_>) -> Option<Told> {
     )
 }
 
+/// What is read of `explain`.
+fn explanation_of(read: &ExplainWords<'_>) -> Option<Told> {
+    told_if(
+        are_both(read.packages, read.cert) && read.named == "a=1",
+        Told::Explain(read.limit),
+    )
+}
+
+/// What is read of `repair`.
+fn repair_of(read: &RepairWords<'_>) -> Option<Told> {
+    told_if(
+        are_both(read.packages, read.cert) && read.named == "a=1",
+        Told::Repair(read.most, read.limit),
+    )
+}
+
 /// Whether the three files of a journal are f, g and h.
 fn are_three(files: &FollowFiles<'_>) -> bool {
     are_both(files.packages, files.cert) && files.journal == "h"
@@ -53,9 +73,11 @@ fn read_of(command: &Command<'_>) -> Option<Told> {
         Command::CheckExplain(files) => {
             told_if(are_both(files.packages, files.cert), Told::CheckExplain)
         }
+        Command::Explain(read) => explanation_of(read),
         Command::CheckRepair(files) => {
             told_if(are_both(files.packages, files.cert), Told::CheckRepair)
         }
+        Command::Repair(read) => repair_of(read),
         Command::Steps(files) => told_if(are_both(files.packages, files.later), Told::Steps),
         Command::Follow(files) => told_if(are_three(files), Told::Follow),
         Command::Try(sizes) => Some(Told::Try(sizes.size, sizes.seed)),
@@ -118,6 +140,33 @@ const COMMANDS: &[Row] = &[
     (&["health", "f", "g"], Told::Health),
     (&["check-explain", "f", "g"], Told::CheckExplain),
     (&["check-repair", "f", "g"], Told::CheckRepair),
+    (
+        &["explain", "f", "g", "--package", "a=1"],
+        Told::Explain(10_000),
+    ),
+    (
+        &["--package=a=1", "--limit=3", "explain", "f", "g"],
+        Told::Explain(3),
+    ),
+    (
+        &["repair", "f", "g", "--package=a=1"],
+        Told::Repair(8, 10_000),
+    ),
+    (
+        &["repair", "f", "--package", "a=1", "--most", "0", "g"],
+        Told::Repair(0, 10_000),
+    ),
+    (
+        &[
+            "repair",
+            "f",
+            "g",
+            "--package=a=1",
+            "--limit=1000000",
+            "--most=64",
+        ],
+        Told::Repair(64, 1_000_000),
+    ),
     (&["classes", "f"], Told::Classes),
     (&["check", "f", "g"], Told::Check),
     (&["steps", "f", "g"], Told::Steps),
@@ -157,6 +206,45 @@ const OTHERS: &[&[&str]] = &[
     &["follow", "f", "g"],
     &["follow", "f", "g", "h", "i"],
     &["follow", "f", "g", "h", "--essential"],
+    // A package is needed, once, and with its text.
+    &["explain", "f", "g"],
+    &["repair", "f", "g"],
+    &["repair", "f", "g", "--most", "3"],
+    &["explain", "f", "g", "--package"],
+    &["explain", "f", "g", "a=1"],
+    &["explain", "f", "g", "--package=a=1", "--package=a=1"],
+    // Two files.
+    &["explain", "f", "--package", "a=1"],
+    &["explain", "f", "g", "h", "--package", "a=1"],
+    &["repair", "f", "--package", "a=1"],
+    &["repair", "f", "g", "h", "--package", "a=1"],
+    // Options of other commands.
+    &["explain", "f", "g", "--package=a=1", "--most=8"],
+    &["explain", "f", "g", "--package=a=1", "--essential"],
+    &["explain", "f", "g", "--package=a=1", "--size=1"],
+    &["explain", "f", "g", "--package=a=1", "--seed=0"],
+    &["repair", "f", "g", "--package=a=1", "--essential"],
+    &["repair", "f", "g", "--package=a=1", "--size=1"],
+    &["repair", "f", "g", "--package=a=1", "--seed=0"],
+    &["strong", "f", "g", "--package=a=1"],
+    &["outdated", "f", "g", "--most=8"],
+    &["check", "f", "g", "--package=a=1"],
+    &["check-explain", "f", "g", "--package=a=1"],
+    &["check-repair", "f", "g", "--most=8"],
+    &["health", "f", "g", "--package=a=1"],
+    &["classes", "f", "--most=8"],
+    &["steps", "f", "g", "--package=a=1"],
+    &["follow", "f", "g", "h", "--most=8"],
+    &["try", "--seed=0", "--size=2", "--package=a=1"],
+    &["try", "--seed=0", "--size=2", "--most=8"],
+    // Numbers out of their bounds, twice, or none.
+    &["explain", "f", "g", "--package=a=1", "--limit=0"],
+    &["repair", "f", "g", "--package=a=1", "--limit=1000001"],
+    &["repair", "f", "g", "--package=a=1", "--most=65"],
+    &["repair", "f", "g", "--package=a=1", "--most=-1"],
+    &["repair", "f", "g", "--package=a=1", "--most=x"],
+    &["repair", "f", "g", "--package=a=1", "--most"],
+    &["repair", "f", "g", "--package=a=1", "--most=1", "--most=1"],
     &["--help"],
 ];
 

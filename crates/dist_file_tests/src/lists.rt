@@ -1,5 +1,5 @@
-//! Texts over the packages a=1, a=2 and b=1:0-3, in their order.
-use dist_list::{ListError, lists_are_exact, read_list};
+//! Texts over the packages a=1, a=2 and b=1:0-3, in their order: sets of them, and single ones.
+use dist_list::{ListError, lists_are_exact, names_are_exact, package_named, read_list};
 use dist_repo::Repository;
 use dist_samples::repository;
 use std::alloc::Global;
@@ -75,7 +75,66 @@ fn sets(rt: HostRuntime) {
     }
 }
 
+/// A text, and the number of the one package that it names.
+type OneRow = (&'static str, Option<u32>);
+
+const ONE_ROWS: &[OneRow] = &[
+    ("a=1", Some(0)),
+    ("a=2", Some(1)),
+    ("b=1:0-3", Some(2)),
+    // Equal versions.
+    ("a=0:1", Some(0)),
+    ("a=1-0", Some(0)),
+    ("a=01", Some(0)),
+    ("b=01:00-03", Some(2)),
+    // A version that no package of the name has, of another name, or less or more than a version.
+    ("a=3", None),
+    ("b=0-3", None),
+    ("b=1", None),
+    ("a=", None),
+    ("a=1_", None),
+    ("a==1", None),
+    ("a=1=1", None),
+    // No package's name.
+    ("c=1", None),
+    ("A=1", None),
+    ("=1", None),
+    ("ab=1", None),
+    // No equals sign, or none where it belongs.
+    ("", None),
+    ("=", None),
+    ("a", None),
+    ("a 1", None),
+    ("a1=", None),
+    // Nothing stands round the three.
+    (" a=1", None),
+    ("a =1", None),
+    ("a= 1", None),
+    ("a=1 ", None),
+    ("a=1\n", None),
+];
+
+/// Whether a text names the package that its row says.
+fn is_one(alloc: Global, row: &OneRow) -> bool {
+    match repository(alloc, STANZAS) {
+        Some(repository) => {
+            let so = package_named(alloc, &repository, row.0.as_bytes()).ok() == Some(row.1);
+            drop(repository);
+            so
+        }
+        None => false,
+    }
+}
+
 #[test]
-fn law_holds() {
+fn single_packages(rt: HostRuntime) {
+    for row in ONE_ROWS {
+        assert!(rt; is_one(rt.alloc(), row), "{:?}", row.0);
+    }
+}
+
+#[test]
+fn laws_hold() {
     lists_are_exact();
+    names_are_exact();
 }

@@ -1,5 +1,5 @@
 -- The package that a text names.
-use Rattle.std.proofs.Common.{◌≡◌, ◌↔◌, ℕ, ◌<◌, List, length, get_or, Option, Some, None, Less, Equal, nat_cmp, inl, inr, refl, sym, ap, ◌∙◌, subst, arith}
+use Rattle.std.proofs.Common.{◌≡◌, ◌↔◌, ℕ, ◌<◌, List, get_or, Option, Some, None, Less, Equal, nat_cmp, inl, inr, sym, ap, ◌∙◌, subst, arith}
 use Rattle.std.specs.Cmp.Lexicographic.{slice_cmp}
 use Rattle.std.specs.Option.{option_map_or}
 use Rattle.std.specs.Ordering.{ordering_then}
@@ -71,7 +71,7 @@ not-before packages name version n m order first second before =
     let a = here-at P packages n first in
     let b = here-at P packages m second in
     let low : get_or packages n a.element ≡ a.element = get_or_from_slice_get packages n a.element a.element a.is in
-    let high : get_or packages m a.element ≡ b.element = get_or_from_slice_get packages m a.element b.element b.is in
+    let high : get_or packages m a.element ≡ b.element = get_or_from_slice_get packages m b.element a.element b.is in
     let less : package_cmp a.element b.element ≡ Less = subst (λ (p : Package). package_cmp p b.element ≡ Less) low
     (subst (λ (q : Package). package_cmp (get_or packages n a.element) q ≡ Less) high
     (order n m a.element before (slice_get_within packages m b.element b.is))) in

@@ -1,5 +1,5 @@
 -- The parts of a line of LIST.
-use Rattle.std.specs.Prelude.{◌≡◌, ℕ, Bool, true, false, not, ◌||◌, ◌==◌, List, [], ◌∷◌, if◌then◌else◌, codes, refl}
+use Rattle.std.specs.Prelude.{◌≡◌, ℕ, Bool, true, false, not, List, [], ◌∷◌, if◌then◌else◌, codes, refl}
 use Rattle.dist_base.specs.Ascii.{is_padding}
 
 -- the next byte, if there is one, belongs to a part

@@ -1,5 +1,5 @@
 -- A text that names one package: `NAME=VERSION`.
-use Rattle.std.specs.Prelude.{◌≡◌, ℕ, List, Some}
+use Rattle.std.specs.Prelude.{◌≡◌, ℕ, List, Some, codes, refl}
 use Rattle.dist_version.specs.Spelling.{IsVersion, split_once}
 use Rattle.dist_repo.specs.Providers.{IsPackageAt}
 use Rattle.dist_repo.specs.declared.package.Package.{Package}
@@ -16,3 +16,7 @@ pub record IsNamed (packages : List Package) (text : List ℕ) (number : ℕ) : 
   pub spelled : split_once equals_sign text ≡ Some (name, version)
   pub is_version : IsVersion version
   pub found : IsPackageAt packages number name version
+
+-- `a=1=2` is cut at the first equals sign
+cut_at_the_first : split_once equals_sign (codes "a=1=2") ≡ Some (codes "a", codes "1=2")
+cut_at_the_first = refl

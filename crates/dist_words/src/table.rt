@@ -56,7 +56,7 @@ fn in_table<'a>(word: &str, files: &[&'a str], options: Options<'a>) -> Option<C
     requires limit { IfSome options.limit IsLimit }
     requires size { IfSome options.size IsSize }
     requires most { IfSome options.most (λ most. most ≤ MAX_MOST) }
-    ensures command { option_map line_of result ≡ in_table word.now (names files.now) (seen options) }
+    ensures command { option_map line_of result ≡ in_table word.now (names files.now) (seen options.entry) }
     ensures limit { IfSome result HasLimit }
 {
     if word == "health" {
@@ -92,35 +92,35 @@ fn in_table<'a>(word: &str, files: &[&'a str], options: Options<'a>) -> Option<C
 
 /// Neither a size nor a seed stands.
 fn has_no_seed(options: Options<'_>) -> bool
-    ensures { result ≡ has_no_seed (seen options) }
+    ensures { result ≡ has_no_seed (seen options.entry) }
 {
     options.size.is_none() && options.seed.is_none()
 }
 
 /// Neither a limit nor the flag stands.
 fn has_no_limit(options: Options<'_>) -> bool
-    ensures { result ≡ has_no_limit (seen options) }
+    ensures { result ≡ has_no_limit (seen options.entry) }
 {
     options.limit.is_none() && !options.essential
 }
 
 /// No package is named, and nothing is counted.
 fn names_none(options: Options<'_>) -> bool
-    ensures { result ≡ names_none (seen options) }
+    ensures { result ≡ names_none (seen options.entry) }
 {
     options.named.is_none() && options.most.is_none()
 }
 
 /// No option stands.
 fn has_no_option(options: Options<'_>) -> bool
-    ensures { result ≡ has_no_option (seen options) }
+    ensures { result ≡ has_no_option (seen options.entry) }
 {
     has_no_seed(options) && has_no_limit(options) && names_none(options)
 }
 
 /// `health PACKAGES LIST`.
 fn health<'a>(files: &[&'a str], options: Options<'_>) -> Option<Command<'a>>
-    ensures { option_map line_of result ≡ where_allowed (has_no_option (seen options)) (with_two Health (names files.now)) }
+    ensures { option_map line_of result ≡ where_allowed (has_no_option (seen options.entry)) (with_two Health (names files.now)) }
 {
     match files {
         [packages, list] if has_no_option(options) => {
@@ -132,7 +132,7 @@ fn health<'a>(files: &[&'a str], options: Options<'_>) -> Option<Command<'a>>
 
 /// `classes PACKAGES`.
 fn classes<'a>(files: &[&'a str], options: Options<'_>) -> Option<Command<'a>>
-    ensures { option_map line_of result ≡ where_allowed (has_no_option (seen options)) (with_one Classes (names files.now)) }
+    ensures { option_map line_of result ≡ where_allowed (has_no_option (seen options.entry)) (with_one Classes (names files.now)) }
 {
     match files {
         [packages] if has_no_option(options) => Some(Command::Classes(packages)),
@@ -143,7 +143,7 @@ fn classes<'a>(files: &[&'a str], options: Options<'_>) -> Option<Command<'a>>
 /// `strong`, `outdated` or `challenged PACKAGES CERT`, by its kind.
 fn sweep<'a>(kind: CertKind, files: &[&'a str], options: Options<'_>) -> Option<Command<'a>>
     requires { IfSome options.limit IsLimit }
-    ensures command { option_map line_of result ≡ swept kind (names files.now) (seen options) }
+    ensures command { option_map line_of result ≡ swept kind (names files.now) (seen options.entry) }
     ensures limit { IfSome result HasLimit }
 {
     match files {
@@ -162,7 +162,7 @@ fn sweep<'a>(kind: CertKind, files: &[&'a str], options: Options<'_>) -> Option<
 
 /// `check PACKAGES CERT`.
 fn check<'a>(files: &[&'a str], options: Options<'_>) -> Option<Command<'a>>
-    ensures { option_map line_of result ≡ where_allowed (has_no_option (seen options)) (with_two Check (names files.now)) }
+    ensures { option_map line_of result ≡ where_allowed (has_no_option (seen options.entry)) (with_two Check (names files.now)) }
 {
     match files {
         [packages, cert] if has_no_option(options) => {
@@ -174,7 +174,7 @@ fn check<'a>(files: &[&'a str], options: Options<'_>) -> Option<Command<'a>>
 
 /// `check-explain PACKAGES CERT`.
 fn check_explain<'a>(files: &[&'a str], options: Options<'_>) -> Option<Command<'a>>
-    ensures { option_map line_of result ≡ where_allowed (has_no_option (seen options)) (with_two CheckExplain (names files.now)) }
+    ensures { option_map line_of result ≡ where_allowed (has_no_option (seen options.entry)) (with_two CheckExplain (names files.now)) }
 {
     match files {
         [packages, cert] if has_no_option(options) => {
@@ -187,7 +187,7 @@ fn check_explain<'a>(files: &[&'a str], options: Options<'_>) -> Option<Command<
 /// `explain PACKAGES CERT`, with a package that is named.
 fn explain<'a>(files: &[&'a str], options: Options<'a>) -> Option<Command<'a>>
     requires { IfSome options.limit IsLimit }
-    ensures command { option_map line_of result ≡ explained (names files.now) (seen options) }
+    ensures command { option_map line_of result ≡ explained (names files.now) (seen options.entry) }
     ensures limit { IfSome result HasLimit }
 {
     match (files, options.named) {
@@ -206,7 +206,7 @@ fn explain<'a>(files: &[&'a str], options: Options<'a>) -> Option<Command<'a>>
 
 /// `check-repair PACKAGES CERT`.
 fn check_repair<'a>(files: &[&'a str], options: Options<'_>) -> Option<Command<'a>>
-    ensures { option_map line_of result ≡ where_allowed (has_no_option (seen options)) (with_two CheckRepair (names files.now)) }
+    ensures { option_map line_of result ≡ where_allowed (has_no_option (seen options.entry)) (with_two CheckRepair (names files.now)) }
 {
     match files {
         [packages, cert] if has_no_option(options) => {
@@ -220,7 +220,7 @@ fn check_repair<'a>(files: &[&'a str], options: Options<'_>) -> Option<Command<'
 fn repair<'a>(files: &[&'a str], options: Options<'a>) -> Option<Command<'a>>
     requires limit { IfSome options.limit IsLimit }
     requires most { IfSome options.most (λ most. most ≤ MAX_MOST) }
-    ensures command { option_map line_of result ≡ repaired (names files.now) (seen options) }
+    ensures command { option_map line_of result ≡ repaired (names files.now) (seen options.entry) }
     ensures limit { IfSome result HasLimit }
 {
     match (files, options.named) {
@@ -241,7 +241,7 @@ fn repair<'a>(files: &[&'a str], options: Options<'a>) -> Option<Command<'a>>
 fn seeded<'a>(files: &[&'a str], options: Options<'_>) -> Option<Command<'a>>
     requires { IfSome options.size IsSize }
     ensures command { option_map line_of result
-        ≡ where_allowed (has_no_limit (seen options) && names_none (seen options)) (with_none (seeded options.size options.seed) (names files.now)) }
+        ≡ where_allowed (has_no_limit (seen options.entry) && names_none (seen options.entry)) (with_none (seeded options.entry.size options.entry.seed) (names files.now)) }
     ensures limit { IfSome result HasLimit }
 {
     match (files, options.size, options.seed) {
@@ -254,7 +254,7 @@ fn seeded<'a>(files: &[&'a str], options: Options<'_>) -> Option<Command<'a>>
 
 /// `steps PACKAGES LATER`.
 fn steps<'a>(files: &[&'a str], options: Options<'_>) -> Option<Command<'a>>
-    ensures { option_map line_of result ≡ where_allowed (has_no_option (seen options)) (with_two Steps (names files.now)) }
+    ensures { option_map line_of result ≡ where_allowed (has_no_option (seen options.entry)) (with_two Steps (names files.now)) }
 {
     match files {
         [packages, later] if has_no_option(options) => {
@@ -266,7 +266,7 @@ fn steps<'a>(files: &[&'a str], options: Options<'_>) -> Option<Command<'a>>
 
 /// `follow PACKAGES CERT JOURNAL`.
 fn follow<'a>(files: &[&'a str], options: Options<'_>) -> Option<Command<'a>>
-    ensures { option_map line_of result ≡ where_allowed (has_no_option (seen options)) (with_three Follow (names files.now)) }
+    ensures { option_map line_of result ≡ where_allowed (has_no_option (seen options.entry)) (with_three Follow (names files.now)) }
 {
     match files {
         [packages, cert, journal] if has_no_option(options) => {

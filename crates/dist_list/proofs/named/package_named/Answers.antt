@@ -1,4 +1,4 @@
-use Rattle.std.proofs.Common.{◌+◌, ap, sym, ◌∙◌, option_map}
+use Rattle.std.proofs.Common.{◌+◌, ap, ◌∙◌, option_map}
 use Rattle.std.proofs.lemmas.List.{take_rest}
 use Rattle.std.proofs.lemmas.Result.{IfOk-weaker}
 use Rattle.dist_version.specs.CutLaws.{sides, split_once-first}
