@@ -6,4 +6,5 @@ mod EnoughVariables
 mod Counts
 mod Questions
 mod Widths
+mod Totals
 mod Budgets

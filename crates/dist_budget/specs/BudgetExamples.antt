@@ -3,7 +3,7 @@ use Rattle.std.specs.Prelude.{◌≡◌, ◌+◌, [], ◌∷◌, refl}
 use Rattle.dist_cert.specs.Subject.{Matter}
 use Rattle.dist_cert.specs.declared.records.CertKind.TheVariants.{Strong, Outdated, Challenged}
 use Rattle.dist_budget.specs.Budget.{certificate_budget, line_budget, literal_budget, pair_count, question_budget}
-use Rattle.dist_budget.specs.Budget.{record_budget}
+use Rattle.dist_budget.specs.Budget.{record_budget, sweep_size}
 
 -- two packages as they are
 abbrev two : Matter
@@ -37,16 +37,16 @@ futures = record {
 strong_questions : question_budget Strong two ≡ 4
 strong_questions = refl
 
-strong_lines : line_budget Strong two 10000 ≡ 40000
+strong_lines : line_budget (sweep_size Strong two 10000) ≡ 40000
 strong_lines = refl
 
-strong_literals : literal_budget Strong two 10000 ≡ 80000
+strong_literals : literal_budget (sweep_size Strong two 10000) ≡ 80000
 strong_literals = refl
 
-strong_bytes : record_budget two ≡ 13248
+strong_bytes : record_budget two.variables ≡ 13248
 strong_bytes = refl
 
-strong_file : certificate_budget Strong two 10000 ≡ 530078976
+strong_file : certificate_budget (sweep_size Strong two 10000) ≡ 530078976
 strong_file = refl
 
 -- three pairs and one
@@ -61,14 +61,14 @@ outdated_questions = refl
 challenged_questions : question_budget Challenged futures ≡ 10
 challenged_questions = refl
 
-challenged_lines : line_budget Challenged futures 10000 ≡ 100000
+challenged_lines : line_budget (sweep_size Challenged futures 10000) ≡ 100000
 challenged_lines = refl
 
-challenged_literals : literal_budget Challenged futures 10000 ≡ 1100000
+challenged_literals : literal_budget (sweep_size Challenged futures 10000) ≡ 1100000
 challenged_literals = refl
 
-challenged_bytes : record_budget futures ≡ 13464
+challenged_bytes : record_budget futures.variables ≡ 13464
 challenged_bytes = refl
 
-challenged_file : certificate_budget Challenged futures 10000 ≡ 1346723136
+challenged_file : certificate_budget (sweep_size Challenged futures 10000) ≡ 1346723136
 challenged_file = refl
