@@ -8,3 +8,7 @@ mod Questions
 mod Widths
 mod Totals
 mod Budgets
+mod FirstLines
+mod InquiryLines
+mod RepairQuestions
+mod SearchBudgets

@@ -1,11 +1,16 @@
-//! Which numbers are enough for a sweep. The function does nothing.
+//! Which numbers are enough for a file. The functions do nothing.
 ghost use Rattle.std.specs.Prelude.{ℕ, Bool, List};
-ghost use Rattle.dist_budget.specs.Budget.{IsBelowBudget};
+ghost use Rattle.dist_budget.specs.Budget.{IsBelowBudget, IsBelowFileBudget};
+ghost use Rattle.dist_budget.specs.SearchBudget.{repair_size};
 ghost use Rattle.dist_cert.specs.Part.{IsStoppedBy};
 ghost use Rattle.dist_cert.specs.declared.records.CertKind.{CertKind};
+ghost use Rattle.dist_inquiry.specs.Written.{IsFull};
 ghost use Rattle.dist_outside.specs.declared.limits.Limits.{Limits};
 ghost use Rattle.dist_outside.specs.declared.trouble.What.{What};
+ghost use Rattle.dist_repair.specs.declared.verdict.RepairHeader.{RepairHeader};
+ghost use Rattle.dist_repair_search.specs.SearchAnswers.{OfRepair};
 ghost use Rattle.dist_repo.specs.PackageList.{PackageList};
+ghost use Rattle.dist_space.specs.Space.{SpaceView};
 ghost use Rattle.dist_subject.specs.Basis.{Basis, IsBasisOf, matter_of};
 ghost use Rattle.dist_sweep.specs.Sweep.{header_of};
 
@@ -19,3 +24,9 @@ pub fn budgets_are_enough()
 {
     forms_are_clear();
 }
+
+/// The search for a repair is stopped by a number of its file only where that number is below its budget.
+pub fn repair_budgets_are_enough()
+    ensures { (s : SpaceView) (h : RepairHeader) (limits : Limits) (what : What) (text : List ℕ)
+        → OfRepair s h limits (λ g course. IsFull g course what text) → IsBelowFileBudget limits (repair_size s h) what }
+{}

@@ -7,4 +7,4 @@
 
 mod laws;
 
-pub use laws::budgets_are_enough;
+pub use laws::{budgets_are_enough, repair_budgets_are_enough};
