@@ -49,7 +49,7 @@ open-append open_still [] more = refl
 open-append open_still (step ∷ before) more = open-append (open_behind open_still step) before more
 
 -- A question is open still behind derived lines alone, and these find nothing.
-pub record IsStill (question : List Word) (since : List CertRecord) : Type 0 where
+record IsStill (question : List Word) (since : List CertRecord) : Type 0 where
   open_still : open_after (Some question) since ≡ Some question
   finds : findings_behind (Some question) since ≡ []
 
@@ -135,8 +135,34 @@ none-asked [] none = refl
 none-asked (Question question ∷ lines) none = absurd (none question (0, omega arith, refl))
 none-asked (step ∷ lines) none = none-asked lines (λ question later. none question (Contains-append_right (step ∷ []) lines (Question question) later))
 
+-- ---- numbers
+
+-- with fewer relations left there is room for one question of fewer and one without each
+room : (relations last fewer cores out count : ℕ) → count ≤ 1 + (1 + relations) * (relations - last) + cores + out → cores ≤ 1 → out ≤ last
+    → last ≤ relations → fewer < last → count ≤ 1 + (1 + relations) * (relations - fewer)
+room relations last fewer cores out count within one few most less =
+    let step : relations - last + 1 ≤ relations - fewer = omega (arith, most, less) in
+    let wide = mul-le-mul_left (1 + relations) step in
+    omega (arith, within, one, few, most, wide, mul-add (1 + relations) (relations - last) 1, mul-one (1 + relations))
+
+-- all together
+in-all : (relations last cores out count : ℕ) → count ≤ 1 + (1 + relations) * (relations - last) + cores + out → cores ≤ 1 → cores ≤ last → out ≤ last
+    → last ≤ relations → count ≤ explanation_questions relations
+in-all relations last cores out count within one fewer few most =
+    let square = mul_comm (1 + relations) relations ∙ mul-add relations 1 relations in
+    elim (cases_lt 0 last) [
+      | inl some ↦
+          let step : relations - last + 1 ≤ relations = omega (arith, most, some) in
+          let wide = mul-le-mul_left (1 + relations) step in
+          omega (arith, within, one, few, most, wide, mul-add (1 + relations) (relations - last) 1, mul-one (1 + relations), square, mul-one relations)
+      | inr none ↦
+          let step : relations - last ≤ relations = omega arith in
+          let wide = mul-le-mul_left (1 + relations) step in
+          omega (arith, within, fewer, few, none, wide, square, mul-one relations)
+    ]
+
 module _ (of : Asked) (upto : of.number ≤ of.packages) where
-  one-last : (found : List Finding) (numbers later others more : List _) → AreLast of found numbers later → AreLast of found others more → others ≡ numbers
+  one-last : (found : List Finding) (numbers : List ℕ) (later : List Finding) (others : List ℕ) (more : List Finding) → AreLast of found numbers later → AreLast of found others more → others ≡ numbers
   one-last found numbers later others more first second =
       let one = split-last (RefutesSome of) first.earlier (finding.Refuted first.question) later second.earlier (finding.Refuted second.question) more
       (sym first.stands ∙ second.stands) (numbers, first.selects) (others, second.selects) first.none_later second.none_later in
@@ -378,14 +404,6 @@ module _ (of : Asked) (upto : of.number ≤ of.packages) where
         count = omega (arith, count, same);
       }
 
-  -- with fewer relations left there is room for one question of fewer and one without each
-  room : (relations last fewer cores out count : ℕ) → count ≤ 1 + (1 + relations) * (relations - last) + cores + out → cores ≤ 1 → out ≤ last
-      → last ≤ relations → fewer < last → count ≤ 1 + (1 + relations) * (relations - fewer)
-  room relations last fewer cores out count within one few most less =
-      let step : relations - last + 1 ≤ relations - fewer = omega (arith, most, less) in
-      let wide = mul-le-mul_left (1 + relations) step in
-      omega (arith, within, one, few, most, wide, mul-add (1 + relations) (relations - last) 1, mul-one (1 + relations))
-
   -- the question that is refuted is on fewer relations than the last one
   fewer-refuted : (lines earlier : List CertRecord) (question : List Word) → findings lines ≡ findings earlier → (b : IsBehind lines) → Stands earlier
       → (next : IsNextQuestion of earlier question) → length next.numbers < length b.last
@@ -475,21 +493,6 @@ module _ (of : Asked) (upto : of.number ≤ of.packages) where
         inr (refuted-more front asks.0 asks.1 hints asking (next-at asking.earlier asks.0 (asks.1 ++ Refuted hints ∷ back) whole)
         (all asking.earlier (Question asks.0 ∷ asks.1) asking.opened.ends) (all front [] (sym (append-nil front))))
     stands-on front step back is all = other-more front step refl refl (all front [] (sym (append-nil front)))
-
-    in-all : (relations last cores out count : ℕ) → count ≤ 1 + (1 + relations) * (relations - last) + cores + out → cores ≤ 1 → cores ≤ last → out ≤ last
-        → last ≤ relations → count ≤ explanation_questions relations
-    in-all relations last cores out count within one fewer few most =
-        let square = mul_comm (1 + relations) relations ∙ mul-add relations 1 relations in
-        elim (cases_lt 0 last) [
-          | inl some ↦
-              let step : relations - last + 1 ≤ relations = omega (arith, most, some) in
-              let wide = mul-le-mul_left (1 + relations) step in
-              omega (arith, within, one, few, most, wide, mul-add (1 + relations) (relations - last) 1, mul-one (1 + relations), square, mul-one relations)
-          | inr none ↦
-              let step : relations - last ≤ relations = omega arith in
-              let wide = mul-le-mul_left (1 + relations) step in
-              omega (arith, within, fewer, few, none, wide, square, mul-one relations)
-        ]
 
     pub few-explain_questions : length (asked steps) ≤ explanation_questions of.relations
     few-explain_questions = elim (by-fronts Stands steps nothing stands-on) [

@@ -1,5 +1,5 @@
 -- Line by line, what the lines of a file of one question keep, and what is counted of them.
-use Rattle.std.proofs.Common.{◌≡◌, ◌⊎◌, ⊎_elim, inl, inr, ℕ, ◌<◌, ◌≤◌, false, List, [], ◌∷◌, ◌++◌, Option, Some, None, length, refl, sym, ap, subst}
+use Rattle.std.proofs.Common.{◌≡◌, ◌⊎◌, ⊎_elim, inl, inr, ℕ, ◌*◌, ◌<◌, ◌≤◌, false, List, [], ◌∷◌, ◌++◌, Option, Some, None, length, refl, sym, ap, subst}
 use Rattle.std.proofs.Common.{◌∙◌, append-nil, append_assoc, arith}
 use Rattle.std.specs.List.{All, Contains}
 use Rattle.std.proofs.lemmas.Bool.{false≢true}
@@ -13,6 +13,7 @@ use Rattle.dist_cert.specs.declared.records.CertRecord.{CertRecord}
 use Rattle.dist_cert.specs.declared.records.CertRecord.TheVariants.{Question, Derived, Refuted, Installation, Undecided, End}
 use Rattle.dist_cert.specs.ByRecordsLaws.{no_end_in}
 use Rattle.dist_cert.specs.Form.{IsSmall, Word, record_text}
+use Rattle.dist_cert.specs.Groups.{derived}
 use Rattle.dist_cert.specs.ListLaws.{contains-cases}
 use Rattle.dist_cert.specs.LineRules.{HasRecordFault}
 use Rattle.dist_cert.specs.SomeVerdictLaws.{split_push}
@@ -110,7 +111,7 @@ passing-next : (g : Setting) (course : Course) (before : Option (List CertRecord
     → PassesNext g course before what → Passing g course.asks what
 passing-next g course None what written (line, after, next, passes) = record {
   steps = [];
-  kept = λ front step back is. let n = ap length is in absurd (nothing front step back is);
+  kept = λ front step back is. absurd (nothing front step back is);
   in_order = tt;
   passes = subst (λ ls. Passes g ls what) next.1 passes;
 }
@@ -147,11 +148,11 @@ module _ (g : Setting) (size : FileSize) (asks : Asks) (variables : g.inputs.var
   are-counted : (steps : List CertRecord) → AreKept (matter_in g) (header_in g) steps → AreAsked asks [] steps → AreCounted size g.first steps
   are-counted steps kept in_order = record {
     questions = few steps kept in_order;
-    lines = subst (λ (n : ℕ). length _ ≤ n * length (asked steps)) limit (few-derived (matter_in g) (header_in g) steps kept);
+    lines = subst (λ (n : ℕ). length (derived steps) ≤ n * length (asked steps)) limit (few-derived (matter_in g) (header_in g) steps kept);
     closings = few-answers (matter_in g) (header_in g) steps kept;
     claims = let none = few-claims (matter_in g) (header_in g) steps kept in omega (arith, none);
     endings = few-ends (matter_in g) (header_in g) steps kept;
-    literals = subst (λ (n : ℕ). All (λ clause. length clause ≤ n) _) variables (all-literals (matter_in g) (header_in g) steps kept);
+    literals = subst (λ (n : ℕ). All (λ clause. length clause ≤ n) (derived steps)) variables (all-literals (matter_in g) (header_in g) steps kept);
     narrow = subst (λ (n : ℕ). All (λ step. length (ended (record_text step)) ≤ record_budget n) steps) variables
         (all-narrow (matter_in g) (header_in g) steps (enough g) kept);
     first_narrow = first;

@@ -11,4 +11,5 @@ mod Budgets
 mod FirstLines
 mod InquiryLines
 mod RepairQuestions
+mod ExplainQuestions
 mod SearchBudgets
