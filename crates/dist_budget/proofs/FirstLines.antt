@@ -9,7 +9,7 @@ onto-width : (k n : ℕ) (behind : List ℕ) → length (digits_onto k 10 false 
 onto-width zero n behind = omega arith
 onto-width (suc k) n behind = by (n / 10 == 0) (onto-width k (n / 10) (digit_glyph false (n % 10) ∷ behind))
   where
-    by : (b : Bool) → length (digits_onto k 10 false (n / 10) (digit_glyph false (n % 10) ∷ behind)) ≤ k + (1 + length behind)
+    by : (b : Bool) → length (digits_onto k 10 false (n / 10) (digit_glyph false (n % 10) ∷ behind)) ≤ k + length (digit_glyph false (n % 10) ∷ behind)
         → length (if b then digit_glyph false (n % 10) ∷ behind else digits_onto k 10 false (n / 10) (digit_glyph false (n % 10) ∷ behind))
         ≤ suc k + length behind
     by true rest = omega arith
