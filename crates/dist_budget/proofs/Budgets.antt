@@ -1,5 +1,5 @@
 -- What stops a sweep is below its budget.
-use Rattle.std.proofs.Common.{⊎_elim, ℕ, ◌<◌, ◌≤◌, Bool, List, ◌++◌, length, arith}
+use Rattle.std.proofs.Common.{⊎_elim, ℕ, ◌≤◌, Bool, List, ◌++◌, length, arith}
 use Rattle.dist_outside.specs.declared.limits.Limits.{Limits}
 use Rattle.dist_outside.specs.declared.trouble.What.{What}
 use Rattle.dist_outside.specs.declared.trouble.What.TheVariants.{Lines, LineLiterals, RecordLine, Certificate}

@@ -1,21 +1,20 @@
 -- The search for an explanation asks few questions: with each refutation fewer relations are left, and behind it there is one
 -- question of fewer of these at most, and one without each of these.
-use Rattle.std.proofs.Common.{◌≡◌, ◌≢◌, ◌⊎◌, ◌↔◌, inl, inr, ℕ, ◌+◌, ◌-◌, ◌*◌, ◌<◌, ◌≤◌, Bool, true, false, List, [], ◌∷◌, ◌++◌, Option, Some, None, length, get_or}
+use Rattle.std.proofs.Common.{◌≡◌, ◌≢◌, ◌⊎◌, inl, inr, ℕ, ◌+◌, ◌-◌, ◌*◌, ◌<◌, ◌≤◌, Bool, true, false, List, [], ◌∷◌, ◌++◌, Option, Some, None, length, get_or}
 use Rattle.std.proofs.Common.{refl, sym, ap, subst, ◌∙◌, arith, append-nil, append_assoc, length-append, mul-add, mul-one, mul_comm, mul-le-mul_left}
-use Rattle.std.specs.List.{All, AllPairs, AllPass, Any, Contains, flat_map}
+use Rattle.std.specs.List.{All, AllPairs, AllPass, Any, Contains}
 use Rattle.std.proofs.lemmas.Bool.{cases_lt, false≢true}
-use Rattle.std.proofs.lemmas.List.Elements.{All-contains, All-head, All-nil, All-push, All-tail, Contains-append_left, Contains-append_right, Contains-get_or, Contains-push}
+use Rattle.std.proofs.lemmas.List.Elements.{All-head, All-nil, All-push, All-tail, Contains-append_left, Contains-append_right, Contains-get_or, Contains-push}
 use Rattle.std.proofs.lemmas.List.Quantifiers.{all_pairs_push}
 use Rattle.dist_base.specs.ListLaws.{any-contained}
 use Rattle.dist_cert.specs.Form.{Word}
 use Rattle.dist_cert.specs.Groups.{installations, leaves_open}
-use Rattle.dist_cert.specs.ListLaws.{contains-cases}
 use Rattle.dist_cert.specs.Part.{IsAsking}
 use Rattle.dist_cert.specs.Rising.{AreRising}
 use Rattle.dist_cert.specs.SomeVerdictLaws.{split_push}
 use Rattle.dist_cert.specs.declared.records.CertRecord.{CertRecord}
 use Rattle.dist_cert.specs.declared.records.CertRecord.TheVariants.{Question, Derived, Refuted, Installation, Undecided}
-use Rattle.dist_explain.specs.Answered.{AreAllBut, AreLast, IsOfRelation, NoneRefuted, RefutesSome, Selects}
+use Rattle.dist_explain.specs.Answered.{AreAllBut, AreLast, NoneRefuted, RefutesSome, Selects}
 use Rattle.dist_explain.specs.AnsweredLaws.{last-more, last-new, none-any, none-more, one-rising, selects-one}
 use Rattle.dist_explain.specs.declared.asked.Asked.{Asked}
 use Rattle.dist_explain_search.specs.ExplainOrder.{IsCoreQuestion, IsFirstQuestion, IsNextQuestion, IsOneLess}
@@ -27,7 +26,7 @@ use Rattle.dist_inquiry.specs.Inquiry.{AreAsked, Setting, header_in, matter_in}
 use Rattle.dist_budget.specs.SearchBudget.{explanation_questions}
 use Rattle.dist_budget.proofs.Counts.{asked, asked_in, count-push, count-split}
 use Rattle.dist_budget.proofs.FewNumbers.{few-of, few-upto}
-use Rattle.dist_budget.proofs.Fronts.{GoesOn, OfFronts, by-fronts}
+use Rattle.dist_budget.proofs.Fronts.{GoesOn, by-fronts}
 use Rattle.dist_budget.proofs.InquiryLines.{asked-at}
 use Rattle.dist_budget.proofs.KeptLines.{AreKept}
 
@@ -162,7 +161,8 @@ in-all relations last cores out count within one fewer few most =
     ]
 
 module _ (of : Asked) (upto : of.number ≤ of.packages) where
-  one-last : (found : List Finding) (numbers : List ℕ) (later : List Finding) (others : List ℕ) (more : List Finding) → AreLast of found numbers later → AreLast of found others more → others ≡ numbers
+  one-last : (found : List Finding) (numbers : List ℕ) (later : List Finding) (others : List ℕ) (more : List Finding) → AreLast of found numbers later
+      → AreLast of found others more → others ≡ numbers
   one-last found numbers later others more first second =
       let one = split-last (RefutesSome of) first.earlier (finding.Refuted first.question) later second.earlier (finding.Refuted second.question) more
       (sym first.stands ∙ second.stands) (numbers, first.selects) (others, second.selects) first.none_later second.none_later in
@@ -222,7 +222,8 @@ module _ (of : Asked) (upto : of.number ≤ of.packages) where
     selects : Selects of question numbers
     but : AreAllBut last one numbers
 
-  still-left-out : (lines : List CertRecord) (step : CertRecord) (last : List ℕ) (one : ℕ) → WasLeftOut lines last one → WasLeftOut (lines ++ step ∷ []) last one
+  still-left-out : (lines : List CertRecord) (step : CertRecord) (last : List ℕ) (one : ℕ) → WasLeftOut lines last one
+      → WasLeftOut (lines ++ step ∷ []) last one
   still-left-out lines step last one was = record {
     question = was.question;
     numbers = was.numbers;
@@ -276,7 +277,8 @@ module _ (of : Asked) (upto : of.number ≤ of.packages) where
       by None = append-nil (findings lines)
       by (Some other) = append-nil (findings lines)
 
-  begun-question : (lines : List CertRecord) (question : List Word) → IsNextQuestion of lines question → HasBegun lines → HasBegun (lines ++ Question question ∷ [])
+  begun-question : (lines : List CertRecord) (question : List Word) → IsNextQuestion of lines question → HasBegun lines
+      → HasBegun (lines ++ Question question ∷ [])
   begun-question lines question next begun = record {
     none = subst (NoneRefuted of) (sym (question-findings lines question)) begun.none;
     one = elim next.place [
@@ -429,7 +431,7 @@ module _ (of : Asked) (upto : of.number ≤ of.packages) where
       → IsNextQuestion of asking.earlier question → Stands asking.earlier → Stands lines → IsBehind (lines ++ Refuted hints ∷ [])
   refuted-more lines question since hints asking next before stands =
       let found = found-behind lines question since asking in
-      let some : 1 ≤ length (asked lines) = 
+      let some : 1 ≤ length (asked lines) =
       omega (arith, count-split asked_in lines asking.earlier (Question question ∷ since) asking.opened.ends) in
       elim stands [
         | inl begun ↦ refuted-now lines hints question next.numbers next.selects (found.refutes hints) some

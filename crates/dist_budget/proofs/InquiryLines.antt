@@ -1,6 +1,6 @@
 -- Line by line, what the lines of a file of one question keep, and what is counted of them.
-use Rattle.std.proofs.Common.{◌≡◌, ◌⊎◌, ⊎_elim, inl, inr, ℕ, ◌*◌, ◌<◌, ◌≤◌, false, List, [], ◌∷◌, ◌++◌, Option, Some, None, length, refl, sym, ap, subst}
-use Rattle.std.proofs.Common.{◌∙◌, append-nil, append_assoc, arith}
+use Rattle.std.proofs.Common.{◌≡◌, ⊎_elim, inl, inr, ℕ, ◌*◌, ◌≤◌, List, [], ◌∷◌, ◌++◌, Option, Some, None, length, refl, sym, ap, subst}
+use Rattle.std.proofs.Common.{append-nil, append_assoc, arith}
 use Rattle.std.specs.List.{All, Contains}
 use Rattle.std.proofs.lemmas.Bool.{false≢true}
 use Rattle.std.proofs.lemmas.List.Elements.{All-nil}
@@ -18,9 +18,9 @@ use Rattle.dist_cert.specs.ListLaws.{contains-cases}
 use Rattle.dist_cert.specs.LineRules.{HasRecordFault}
 use Rattle.dist_cert.specs.SomeVerdictLaws.{split_push}
 use Rattle.dist_cert.specs.Writing.{ended}
-use Rattle.dist_inquiry.specs.Inquiry.{AllNext, AreAsked, Asks, IsLine, IsNextLine, MayAsk, Passes, Setting, header_in, matter_in}
+use Rattle.dist_inquiry.specs.Inquiry.{AllNext, AreAsked, Asks, IsLine, IsNextLine, Passes, Setting, header_in, matter_in}
 use Rattle.dist_inquiry.specs.InquiryLaws.{asked-join}
-use Rattle.dist_inquiry.specs.Written.{Course, IsFull, IsNextAt, MayBeWritten, PassesNext}
+use Rattle.dist_inquiry.specs.Written.{Course, IsFull, MayBeWritten, PassesNext}
 use Rattle.dist_budget.specs.Budget.{FileSize, IsBelowFileBudget, record_budget}
 use Rattle.dist_budget.proofs.Counts.{asked, few-answers, few-claims, few-derived, few-ends}
 use Rattle.dist_budget.proofs.EnoughVariables.{HasEnoughVariables}
@@ -121,17 +121,17 @@ passing-next g course None what written (line, after, next, passes) = record {
     nothing (x ∷ front) step back is = let n = ap length is in omega (arith, n)
 passing-next g course (Some lines) what written (line, after, (step, next, text, is), passes) = elim next [
   | inl may ↦ record {
-      steps = lines ++ step ∷ [];
-      kept = kept-push g lines step (lines-kept g lines written.0.next) (line-kept g lines step may.0);
-      in_order = asked-join course.asks [] lines (step ∷ []) written.1 (may.1, tt);
-      passes = subst (λ ls. Passes g ls what) is passes;
-    }
+    steps = lines ++ step ∷ [];
+    kept = kept-push g lines step (lines-kept g lines written.0.next) (line-kept g lines step may.0);
+    in_order = asked-join course.asks [] lines (step ∷ []) written.1 (may.1, tt);
+    passes = subst (λ ls. Passes g ls what) is passes;
+  }
   | inr (ends, decided) ↦ record {
-      steps = lines ++ End ∷ [];
-      kept = kept-push g lines End (lines-kept g lines written.0.next) (end-kept g lines written.0.next);
-      in_order = asked-join course.asks [] lines (End ∷ []) written.1 (tt, tt);
-      passes = subst (λ s. Passes g (lines ++ s ∷ []) what) ends (subst (λ ls. Passes g ls what) is passes);
-    }
+    steps = lines ++ End ∷ [];
+    kept = kept-push g lines End (lines-kept g lines written.0.next) (end-kept g lines written.0.next);
+    in_order = asked-join course.asks [] lines (End ∷ []) written.1 (tt, tt);
+    passes = subst (λ s. Passes g (lines ++ s ∷ []) what) ends (subst (λ ls. Passes g ls what) is passes);
+  }
 ]
 
 pub passing : (g : Setting) (course : Course) (what : What) (text : List ℕ) → IsFull g course what text → Passing g course.asks what

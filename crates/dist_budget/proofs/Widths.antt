@@ -1,6 +1,6 @@
--- How long the lines of a part are.
-use Rattle.std.proofs.Common.{◌≡◌, ◌≢◌, ⊎_elim, inl, inr, ℕ, ◌+◌, ◌*◌, ◌-◌, ◌^◌, ◌<◌, ◌≤◌, Bool, true, false, List, [], ◌∷◌, ◌++◌, length, get_or, map}
-use Rattle.std.proofs.Common.{refl, ap, sym, subst, ◌∙◌, append-nil, arith, length-append, mul-add, mul-one}
+-- How long the lines of a file are.
+use Rattle.std.proofs.Common.{◌≡◌, ◌≢◌, ⊎_elim, ℕ, ◌+◌, ◌*◌, ◌-◌, ◌^◌, ◌<◌, ◌≤◌, Bool, true, false, List, [], ◌∷◌, ◌++◌, length, get_or, map}
+use Rattle.std.proofs.Common.{refl, sym, subst, ◌∙◌, append-nil, arith, length-append, mul-add, mul-one}
 use Rattle.std.specs.Prelude.{codes}
 use Rattle.std.specs.List.{All, AllPairs, Any}
 use Rattle.std.proofs.lemmas.Bool.{cases_lt}
@@ -15,7 +15,8 @@ use Rattle.dist_cert.specs.declared.records.CertRecord.{CertRecord}
 use Rattle.dist_cert.specs.declared.records.CertRecord.TheVariants.{Question, Derived, Refuted, Installation, Strong, Challenged}
 use Rattle.dist_cert.specs.declared.records.Header.{Header}
 use Rattle.dist_cert.specs.ClaimRules.{HoldsChallenged, HoldsClaim, HoldsStrong, IsNamed}
-use Rattle.dist_cert.specs.Form.{Word, AreLiterals, IsSmall, plain, signed_text, word_text, words_text, plains, words, record_text, header_text, kind_text, mode_text}
+use Rattle.dist_cert.specs.Form.{Word, AreLiterals, IsSmall, plain, signed_text, word_text, words_text, plains, words, record_text, header_text}
+use Rattle.dist_cert.specs.Form.{kind_text, mode_text}
 use Rattle.dist_cert.specs.Form.{HasHeaderForm, KeepsRules, pair_words}
 use Rattle.dist_clause.specs.Formula.{Literal, literal}
 use Rattle.dist_cert.specs.Groups.{clause_of, derived, derived_in, installations, is_claim}

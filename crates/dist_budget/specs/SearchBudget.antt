@@ -1,4 +1,4 @@
--- Numbers that are enough for the two searches that answer one question: that for an explanation, and that for a repair.
+-- Numbers that are enough for the searches that answer one question: for an explanation, and for a repair.
 use Rattle.std.specs.Prelude.{ℕ, ◌+◌, ◌*◌, List, length}
 use Rattle.dist_clause.specs.Formula.{Literal}
 use Rattle.dist_repo.specs.PackageList.{PackageList}
@@ -8,7 +8,7 @@ use Rattle.dist_repair.specs.declared.verdict.RepairHeader.{RepairHeader}
 use Rattle.dist_budget.specs.Budget.{FileSize}
 
 -- Of so many relations: the first question is on all of them. A question that is refuted is on fewer relations than the
--- one refuted before it. Behind it at most one question is on some of its relations, and one on all but each of them.
+-- one refuted before. Behind it comes at most one question on some of its relations, and one that leaves out each.
 abbrev pub explanation_questions : (relations : ℕ) → ℕ
 explanation_questions relations = 1 + relations + relations * relations
 

@@ -8,6 +8,4 @@
 
 mod laws;
 
-pub use laws::{
-    budgets_are_enough, explanation_budgets_are_enough, repair_budgets_are_enough,
-};
+pub use laws::{budgets_are_enough, explanation_budgets_are_enough, repair_budgets_are_enough};
