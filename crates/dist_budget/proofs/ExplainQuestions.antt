@@ -128,7 +128,7 @@ refutes-none of (Some question) (Installation variables) is = λ none. none
 refutes-none of None step is = tt
 refutes-none of (Some question) step is = tt
 
--- no question stands among lines that asked nothing
+-- lines among which no question stands ask nothing
 none-asked : (lines : List CertRecord) → ((question : List Word) → ¬ Contains lines (Question question)) → length (asked lines) ≡ 0
 none-asked [] none = refl
 none-asked (Question question ∷ lines) none = absurd (none question (0, omega arith, refl))
@@ -237,8 +237,8 @@ module _ (of : Asked) (upto : of.number ≤ of.packages) where
     none : NoneRefuted of (findings lines)
     one : length (asked lines) ≤ 1
 
-  -- The last question that is refuted is on these relations. Behind it there was a question of fewer of them, or there was
-  -- none, and each of these was left out.
+  -- The last question that is refuted is on these relations. Behind it there were so many questions of fewer of them, one at
+  -- most, and each of some of them was left out.
   record IsBehind (lines : List CertRecord) : Type 0 where
     last : List ℕ
     later : List Finding
