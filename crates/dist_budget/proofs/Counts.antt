@@ -47,7 +47,7 @@ flat-push f xs x = flat_map-append f xs (x ∷ []) ∙ ap (λ ys. flat_map f xs 
 pub count-push : {X Y : Type 0} (f : X → List Y) (xs : List X) (x : X) → length (flat_map f (xs ++ x ∷ [])) ≡ length (flat_map f xs) + length (f x)
 count-push f xs x = ap length (flat-push f xs x) ∙ length-append (flat_map f xs) (f x)
 
-count-split : {X Y : Type 0} (f : X → List Y) (whole xs ys : List X) → whole ≡ xs ++ ys
+pub count-split : {X Y : Type 0} (f : X → List Y) (whole xs ys : List X) → whole ≡ xs ++ ys
     → length (flat_map f whole) ≡ length (flat_map f xs) + length (flat_map f ys)
 count-split f whole xs ys is = ap (λ zs. length (flat_map f zs)) is ∙ ap length (flat_map-append f xs ys) ∙ length-append (flat_map f xs) (flat_map f ys)
 

@@ -6,4 +6,10 @@ mod EnoughVariables
 mod Counts
 mod Questions
 mod Widths
+mod Totals
 mod Budgets
+mod FirstLines
+mod InquiryLines
+mod RepairQuestions
+mod ExplainQuestions
+mod SearchBudgets

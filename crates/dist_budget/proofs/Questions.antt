@@ -19,7 +19,7 @@ use Rattle.dist_cert.specs.Form.{Word, AreLiterals}
 use Rattle.dist_cert.specs.Groups.{claimed, claim_count, group, is_claim}
 use Rattle.dist_cert.specs.GroupLaws.{group-append, group-claim}
 use Rattle.dist_cert.specs.ListLaws.{contains-later}
-use Rattle.dist_cert.specs.Part.{IsQuestionOn}
+use Rattle.dist_cert.specs.Part.{IsNextQuestion, IsQuestionOn}
 use Rattle.dist_cert.specs.Subject.{Matter}
 use Rattle.dist_space.specs.RisingLaws.{below-in, map-in}
 use Rattle.dist_budget.specs.Budget.{pair_count, question_budget}
@@ -27,7 +27,7 @@ use Rattle.dist_budget.proofs.Counts.{asked, asked_in, count-push, flat-push, fe
 use Rattle.dist_budget.proofs.EnoughVariables.{HasEnoughVariables}
 use Rattle.dist_budget.proofs.FewNumbers.{few-of}
 use Rattle.dist_budget.proofs.Fronts.{GoesOn, by-fronts}
-use Rattle.dist_budget.proofs.KeptLines.{IsKept, AreKept}
+use Rattle.dist_budget.proofs.KeptLines.{IsKept, AreAskedInTurn, AreKept}
 use Rattle.dist_budget.proofs.Pairs.{all_pairs, length-pairs, pair-there}
 
 -- ---- the questions of one package
@@ -85,12 +85,12 @@ upto-last variables v words none there =
 
 -- what a claim may need to ask is one of the questions for its package
 question-there : (matter : Matter) (h : Header) (kind : CertKind) (front : List CertRecord) (question : List Word) → HasEnoughVariables matter kind
-    → IsKept matter h front (Question question) → IsQuestionOn matter kind (claim_count front + 1) question
+    → IsKept matter h front (Question question) → IsNextQuestion matter h front question → IsQuestionOn matter kind (claim_count front + 1) question
     → Contains (questions_on matter kind (claim_count front + 1)) question
-question-there matter h kinds.Strong front question enough kept (inl alone) =
+question-there matter h kinds.Strong front question enough kept next (inl alone) =
     let p = claim_count front + 1 in
-    without-there matter p p question (omega arith) (let left = kept.next.claim_left in omega (arith, left)) (alone-is p ∙ sym alone)
-question-there matter h kinds.Strong front question enough kept (inr (q, is)) =
+    without-there matter p p question (omega arith) (let left = next.claim_left in omega (arith, left)) (alone-is p ∙ sym alone)
+question-there matter h kinds.Strong front question enough kept next (inr (q, is)) =
     let p = claim_count front + 1 in
     let form : AreLiterals (yes p ∷ no q ∷ []) = subst AreLiterals is kept.form.rules.1 in
     let upto = upto-last matter.variables q (map (λ (w : Word). w.0) (yes p ∷ no q ∷ []))
@@ -99,9 +99,9 @@ question-there matter h kinds.Strong front question enough kept (inr (q, is)) =
     let packages = enough.no_others refl in
     without-there matter p q question (form.0 1 (yes 0) (omega arith)) (omega (arith, upto, packages))
     (without-is p q (λ same. form.1 0 1 (yes 0) (omega arith) (omega arith) (sym same)) ∙ sym is)
-question-there matter h kinds.Outdated front question enough kept on = (0, omega arith, sym on)
-question-there matter h kinds.Challenged front question enough kept (inl own) = (0, omega arith, sym own)
-question-there matter h kinds.Challenged front question enough kept (inr (pair, is_pair, is)) =
+question-there matter h kinds.Outdated front question enough kept next on = (0, omega arith, sym on)
+question-there matter h kinds.Challenged front question enough kept next (inl own) = (0, omega arith, sym own)
+question-there matter h kinds.Challenged front question enough kept next (inr (pair, is_pair, is)) =
     let p = claim_count front + 1 in
     contains-later (claim_question matter kinds.Challenged p) (map (challenge_question matter p) (all_pairs matter)) question
     (subst (λ (asking : List Word). Contains (map (challenge_question matter p) (all_pairs matter)) asking) (sym is)
@@ -144,9 +144,10 @@ module _ (matter : Matter) (h : Header) (enough : HasEnoughVariables matter h.ki
     left = λ some. absurd (omega (arith, some));
   }
 
-  question-counted : (front : List CertRecord) (question : List Word) → IsKept matter h front (Question question) → IsCounted front
+  question-counted : (front : List CertRecord) (question : List Word) → IsKept matter h front (Question question)
+      → IsNextQuestion matter h front question → IsCounted front
       → IsCounted (front ++ Question question ∷ [])
-  question-counted front question kept counted =
+  question-counted front question kept next counted =
       let claims : claim_count (front ++ Question question ∷ []) ≡ claim_count front = count-push claimed front (Question question) ∙ omega arith in
       let grouped : asked (group (front ++ Question question ∷ [])) ≡ asked (group front) ++ question ∷ [] =
       ap asked (group-append front (Question question ∷ []) refl) ∙ flat-push asked_in (group front) (Question question) in
@@ -155,7 +156,7 @@ module _ (matter : Matter) (h : Header) (enough : HasEnoughVariables matter h.ki
       let asks = count-push asked_in front (Question question) in
       let product : most * claim_count (front ++ Question question ∷ []) ≡ most * claim_count front = ap (λ (n : ℕ). most * n) claims in
       let options = questions_on matter h.kind (claim_count front + 1) in
-      let one = question-there matter h h.kind front question enough kept kept.next.on_next in
+      let one = question-there matter h h.kind front question enough kept next next.on_next in
       record {
         count = omega (arith, counted.count, longer, asks, product);
         each = subst (λ (n : ℕ). AreOn (n + 1) (asked (group (front ++ Question question ∷ [])))) (sym claims)
@@ -164,8 +165,8 @@ module _ (matter : Matter) (h : Header) (enough : HasEnoughVariables matter h.ki
             (All-cons (Contains options) question [] one (All-nil (Contains options)))));
         apart = subst (λ (qs : List (List Word)). AllPairs (λ a b. a ≢ b) qs) (sym grouped)
             (all_pairs_push (λ a b. a ≢ b) (asked (group front)) question counted.apart
-            (λ k d inside same. kept.next.not_twice (asked-there (group front) question k d inside same)));
-        left = λ some. omega (arith, claims, kept.next.claim_left);
+            (λ k d inside same. next.not_twice (asked-there (group front) question k d inside same)));
+        left = λ some. omega (arith, claims, next.claim_left);
       }
 
   claim-counted : (front : List CertRecord) (x : CertRecord) → is_claim x ≡ true → length (claimed x) ≡ 1 → length (asked_in x) ≡ 0 → IsCounted front
@@ -206,20 +207,20 @@ module _ (matter : Matter) (h : Header) (enough : HasEnoughVariables matter h.ki
         left = λ some. let before = counted.left (omega (arith, some, same)) in omega (arith, before, claims);
       }
 
-  counted-on : (whole : List CertRecord) → AreKept matter h whole → GoesOn IsCounted whole
-  counted-on whole kept front (Question question) back is all =
-      question-counted front question (kept front (Question question) back is) (all front [] (sym (append-nil front)))
-  counted-on whole kept front (NotInstallable p) back is all =
+  counted-on : (whole : List CertRecord) → AreKept matter h whole → AreAskedInTurn matter h whole → GoesOn IsCounted whole
+  counted-on whole kept turn front (Question question) back is all =
+      question-counted front question (kept front (Question question) back is) (turn front question back is) (all front [] (sym (append-nil front)))
+  counted-on whole kept turn front (NotInstallable p) back is all =
       claim-counted front (NotInstallable p) refl refl refl (all front [] (sym (append-nil front)))
-  counted-on whole kept front (Unknown p) back is all = claim-counted front (Unknown p) refl refl refl (all front [] (sym (append-nil front)))
-  counted-on whole kept front (Strong p named on undecided) back is all =
+  counted-on whole kept turn front (Unknown p) back is all = claim-counted front (Unknown p) refl refl refl (all front [] (sym (append-nil front)))
+  counted-on whole kept turn front (Strong p named on undecided) back is all =
       claim-counted front (Strong p named on undecided) refl refl refl (all front [] (sym (append-nil front)))
-  counted-on whole kept front (Outdated p) back is all = claim-counted front (Outdated p) refl refl refl (all front [] (sym (append-nil front)))
-  counted-on whole kept front (Alive p installation) back is all =
+  counted-on whole kept turn front (Outdated p) back is all = claim-counted front (Outdated p) refl refl refl (all front [] (sym (append-nil front)))
+  counted-on whole kept turn front (Alive p installation) back is all =
       claim-counted front (Alive p installation) refl refl refl (all front [] (sym (append-nil front)))
-  counted-on whole kept front (Challenged p named by undecided) back is all =
+  counted-on whole kept turn front (Challenged p named by undecided) back is all =
       claim-counted front (Challenged p named by undecided) refl refl refl (all front [] (sym (append-nil front)))
-  counted-on whole kept front x back is all = other-counted front x refl refl refl (all front [] (sym (append-nil front)))
+  counted-on whole kept turn front x back is all = other-counted front x refl refl refl (all front [] (sym (append-nil front)))
 
   within-product : (n m c a : ℕ) → c ≤ m → a ≤ n → (0 < a → c < m) → n * c + a ≤ n * m
   within-product n m c zero upto few left = let wide = mul-le-mul_left n upto in omega (arith, wide)
@@ -228,9 +229,9 @@ module _ (matter : Matter) (h : Header) (enough : HasEnoughVariables matter h.ki
       let wide = mul-le-mul_left n more in
       omega (arith, wide, mul-add n c 1, mul-one n, few)
 
-  pub few-asked : (steps : List CertRecord) → AreKept matter h steps → length (asked steps) ≤ question_budget h.kind matter
-  few-asked steps kept =
-      let counted = by-fronts IsCounted steps nothing-counted (counted-on steps kept) in
+  pub few-asked : (steps : List CertRecord) → AreKept matter h steps → AreAskedInTurn matter h steps → length (asked steps) ≤ question_budget h.kind matter
+  few-asked steps kept turn =
+      let counted = by-fronts IsCounted steps nothing-counted (counted-on steps kept turn) in
       let few = few-questions matter h.kind (claim_count steps + 1) (asked (group steps)) counted.each counted.apart in
       let product = within-product most matter.packages (claim_count steps) (length (asked (group steps))) (few-claims matter h steps kept) few counted.left in
       omega (arith, counted.count, product, budget-is matter h.kind)

@@ -1,6 +1,6 @@
--- How long the lines of a part are.
-use Rattle.std.proofs.Common.{◌≡◌, ◌≢◌, ⊎_elim, inl, inr, ℕ, ◌+◌, ◌*◌, ◌-◌, ◌^◌, ◌<◌, ◌≤◌, Bool, true, false, List, [], ◌∷◌, ◌++◌, length, get_or, map}
-use Rattle.std.proofs.Common.{refl, ap, sym, subst, ◌∙◌, append-nil, arith, length-append, mul-add, mul-one}
+-- How long the lines of a file are.
+use Rattle.std.proofs.Common.{◌≡◌, ◌≢◌, ⊎_elim, ℕ, ◌+◌, ◌*◌, ◌-◌, ◌^◌, ◌<◌, ◌≤◌, Bool, true, false, List, [], ◌∷◌, ◌++◌, length, get_or, map}
+use Rattle.std.proofs.Common.{refl, sym, subst, ◌∙◌, append-nil, arith, length-append, mul-add, mul-one}
 use Rattle.std.specs.Prelude.{codes}
 use Rattle.std.specs.List.{All, AllPairs, Any}
 use Rattle.std.proofs.lemmas.Bool.{cases_lt}
@@ -15,11 +15,11 @@ use Rattle.dist_cert.specs.declared.records.CertRecord.{CertRecord}
 use Rattle.dist_cert.specs.declared.records.CertRecord.TheVariants.{Question, Derived, Refuted, Installation, Strong, Challenged}
 use Rattle.dist_cert.specs.declared.records.Header.{Header}
 use Rattle.dist_cert.specs.ClaimRules.{HoldsChallenged, HoldsClaim, HoldsStrong, IsNamed}
-use Rattle.dist_cert.specs.Form.{Word, IsSmall, plain, signed_text, word_text, words_text, plains, words, record_text, header_text, kind_text, mode_text}
+use Rattle.dist_cert.specs.Form.{Word, AreLiterals, IsSmall, plain, signed_text, word_text, words_text, plains, words, record_text, header_text}
+use Rattle.dist_cert.specs.Form.{kind_text, mode_text}
 use Rattle.dist_cert.specs.Form.{HasHeaderForm, KeepsRules, pair_words}
 use Rattle.dist_clause.specs.Formula.{Literal, literal}
 use Rattle.dist_cert.specs.Groups.{clause_of, derived, derived_in, installations, is_claim}
-use Rattle.dist_cert.specs.Part.{IsQuestionOn}
 use Rattle.dist_cert.specs.FileLines.{lines_text}
 use Rattle.dist_cert.specs.Subject.{Matter}
 use Rattle.dist_cert.specs.Writing.{ended}
@@ -58,22 +58,26 @@ all-right P (x ∷ xs) ys all = all-right P xs ys (All-tail P x (xs ++ ys) all)
 few-rising : (xs : List ℕ) (n : ℕ) → AllPairs (λ x y. x < y) xs → All (λ x. 1 ≤ x) xs → All (λ x. x ≤ n) xs → length xs ≤ n
 few-rising xs n rising from upto = few-upto xs n (λ i j d before inside same. let below = rising i j d before inside in omega (arith, below, same)) from upto
 
-within-range : (matter : Matter) (h : Header) (before : List CertRecord) (variables : List ℕ) → ¬ (Any (λ v. matter.variables < v) variables)
+within-range : (matter : Matter) (variables : List ℕ) → ¬ (Any (λ v. matter.variables < v) variables)
     → All (λ v. v ≤ matter.variables) variables
-within-range matter h before variables none k d inside =
+within-range matter variables none k d inside =
     ⊎_elim (λ above. absurd (none (k, get_or variables k d, inside, get_or_default variables k (get_or variables k d) d inside, above))) (λ upto. upto)
     (cases_lt matter.variables (get_or variables k d))
 
--- ---- literals of derived lines
+-- ---- literals
+
+few-named : (matter : Matter) (literals : List Word) → AreLiterals literals
+    → ¬ (Any (λ v. matter.variables < v) (map (λ (l : Word). l.0) literals)) → length literals ≤ matter.variables
+few-named matter literals are none =
+    let distinct = pairs-map (λ (v w : ℕ). v ≢ w) (λ (l : Word). l.0) literals are.1 in
+    let from = All-map (λ (v : ℕ). 1 ≤ v) (λ (l : Word). l.0) literals are.0 in
+    let few = few-upto (map (λ (l : Word). l.0) literals) matter.variables distinct from
+    (within-range matter (map (λ (l : Word). l.0) literals) none) in
+    omega (arith, few, length-map literals (λ (l : Word). l.0))
 
 few-literals : (matter : Matter) (h : Header) (before : List CertRecord) (literals : List Word) (hints : List ℕ)
     → IsKept matter h before (Derived literals hints) → length literals ≤ matter.variables
-few-literals matter h before literals hints kept =
-    let distinct = pairs-map (λ (v w : ℕ). v ≢ w) (λ (l : Word). l.0) literals kept.form.rules.0.1 in
-    let from = All-map (λ (v : ℕ). 1 ≤ v) (λ (l : Word). l.0) literals kept.form.rules.0.0 in
-    let few = few-upto (map (λ (l : Word). l.0) literals) matter.variables distinct from
-    (within-range matter h before (map (λ (l : Word). l.0) literals) (kept.faultless causes.OutOfRange)) in
-    omega (arith, few, length-map literals (λ (l : Word). l.0))
+few-literals matter h before literals hints kept = few-named matter literals kept.form.rules.0 (kept.faultless causes.OutOfRange)
 
 abbrev AreShort : Matter → List CertRecord → Type 0
 AreShort matter lines = All (λ clause. length clause ≤ matter.variables) (derived lines)
@@ -102,13 +106,11 @@ all-literals matter h steps kept = by-fronts (AreShort matter) steps (All-nil (�
 abbrev HasFewWords : Matter → CertRecord → Type 0
 HasFewWords matter step = length (words step) ≤ 2 * matter.variables + (REACH + 74)
 
-question-words : (matter : Matter) (kind : CertKind) (p : ℕ) (question : List Word) → IsQuestionOn matter kind p question
+-- a question names no variable twice
+question-words : (matter : Matter) (h : Header) (before : List CertRecord) (question : List Word) → IsKept matter h before (Question question)
     → HasFewWords matter (Question question)
-question-words matter kinds.Strong p question (inl alone) = let n = ap length alone in omega (arith, n)
-question-words matter kinds.Strong p question (inr without) = let n = ap length without.1 in omega (arith, n)
-question-words matter kinds.Outdated p question own = let n = ap length own in omega (arith, n)
-question-words matter kinds.Challenged p question (inl own) = let n = ap length own in omega (arith, n)
-question-words matter kinds.Challenged p question (inr at) = let n = ap length at.2 in omega (arith, n)
+question-words matter h before question kept =
+    let few = few-named matter question kept.form.rules.1 (kept.faultless causes.OutOfRange) in omega (arith, few)
 
 -- the named installations are different ones that a claim may reach
 named-few : (before : List CertRecord) (variable : ℕ) (named : List ℕ) → AllPairs (λ m n. m ≢ n) named → All (IsNamed before variable) named
@@ -192,7 +194,7 @@ held-words matter h before step claim enough kept distinct =
 
 few-words : (matter : Matter) (h : Header) (before : List CertRecord) (step : CertRecord) → HasEnoughVariables matter h.kind → IsKept matter h before step
     → HasFewWords matter step
-few-words matter h before (Question question) enough kept = question-words matter h.kind _ question kept.next.on_next
+few-words matter h before (Question question) enough kept = question-words matter h before question kept
 few-words matter h before (Derived literals hints) enough kept =
     let few = few-literals matter h before literals hints kept in
     let hints_few = kept.next.1 in
@@ -200,24 +202,24 @@ few-words matter h before (Derived literals hints) enough kept =
 few-words matter h before (Refuted hints) enough kept = let hints_few = kept.next.1 in omega (arith, hints_few, length-map hints plain)
 few-words matter h before (Installation variables) enough kept =
     let few = few-rising variables matter.variables kept.form.rules.1 kept.form.rules.0
-    (within-range matter h before variables (kept.faultless causes.OutOfRange)) in
+    (within-range matter variables (kept.faultless causes.OutOfRange)) in
     omega (arith, few, length-map variables plain)
 few-words matter h before (Strong p named on undecided) enough kept = held-words matter h before (Strong p named on undecided) refl enough kept kept.next
 few-words matter h before (Challenged p named by undecided) enough kept =
-    held-words matter h before (Challenged p named by undecided) refl enough kept kept.next.0
+    held-words matter h before (Challenged p named by undecided) refl enough kept kept.next
 few-words matter h before step enough kept = omega arith
 
 -- ---- how long a line is
 
 pub line-width : (matter : Matter) (h : Header) (before : List CertRecord) (step : CertRecord) → HasEnoughVariables matter h.kind
-    → IsKept matter h before step → length (ended (record_text step)) ≤ record_budget matter
+    → IsKept matter h before step → length (ended (record_text step)) ≤ record_budget matter.variables
 line-width matter h before step enough kept =
     let few = few-words matter h before step enough kept in
     let width = words-width (words step) kept.form.numbers in
     omega (arith, few, width, length-append (record_text step) (10 ∷ []))
 
 abbrev IsNarrow : Matter → CertRecord → Type 0
-IsNarrow matter step = length (ended (record_text step)) ≤ record_budget matter
+IsNarrow matter step = length (ended (record_text step)) ≤ record_budget matter.variables
 
 narrow-on : (matter : Matter) (h : Header) (whole : List CertRecord) → HasEnoughVariables matter h.kind → AreKept matter h whole
     → GoesOn (All (IsNarrow matter)) whole
@@ -225,7 +227,7 @@ narrow-on matter h whole enough kept front x back is all =
     All-push (IsNarrow matter) front x (all front [] (sym (append-nil front))) (line-width matter h front x enough (kept front x back is))
 
 pub all-narrow : (matter : Matter) (h : Header) (steps : List CertRecord) → HasEnoughVariables matter h.kind → AreKept matter h steps
-    → All (λ step. length (ended (record_text step)) ≤ record_budget matter) steps
+    → All (λ step. length (ended (record_text step)) ≤ record_budget matter.variables) steps
 all-narrow matter h steps enough kept = by-fronts (All (IsNarrow matter)) steps (All-nil (IsNarrow matter)) (narrow-on matter h steps enough kept)
 
 pub lines-width : (budget : ℕ) (steps : List CertRecord) → All (λ step. length (ended (record_text step)) ≤ budget) steps
@@ -247,7 +249,7 @@ kind-width kinds.Strong = omega arith
 kind-width kinds.Outdated = omega arith
 kind-width kinds.Challenged = omega arith
 
-pub header-width : (matter : Matter) (h : Header) → HasHeaderForm (header_text h) h → length (ended (header_text h)) ≤ record_budget matter
+pub header-width : (matter : Matter) (h : Header) → HasHeaderForm (header_text h) h → length (ended (header_text h)) ≤ record_budget matter.variables
 header-width matter h form =
     let numbers = h.limit ∷ h.packages ∷ h.variables ∷ h.clauses ∷ [] in
     let small_limit : h.limit < 2 ^ 32 = omega (arith, form.rules.1) in

@@ -1,5 +1,5 @@
--- Numbers that are enough for the sweep of a kind over what is spoken of, where so many derived lines leave a question
--- undecided.
+-- Numbers that are enough for a file: for one whose questions are few, and for the sweep of a kind over what is spoken
+-- of.
 use Rattle.std.specs.Prelude.{ℕ, ◌+◌, ◌*◌, ◌<◌, sum_by}
 use Rattle.dist_outside.specs.declared.limits.Limits.{Limits}
 use Rattle.dist_outside.specs.declared.trouble.What.{What}
@@ -8,6 +8,44 @@ use Rattle.dist_cert.specs.Subject.{Cluster, Matter}
 use Rattle.dist_cert.specs.declared.TheConstants.{REACH}
 use Rattle.dist_cert.specs.declared.records.CertKind.{CertKind}
 use Rattle.dist_cert.specs.declared.records.CertKind.TheVariants as kinds
+
+-- ---- a file
+
+-- Of a file: the packages and the variables that it speaks of, how many questions it asks at most, and how many derived
+-- lines leave one of them undecided.
+pub record FileSize : Type 0 where
+  pub packages : ℕ
+  pub variables : ℕ
+  pub questions : ℕ
+  pub limit : ℕ
+
+-- derived lines
+abbrev pub line_budget : FileSize → ℕ
+line_budget size = size.limit * size.questions
+
+-- literals in them
+abbrev pub literal_budget : FileSize → ℕ
+literal_budget size = size.variables * line_budget size
+
+-- Bytes of a line, with its line feed: 12 for each word. A line has at most two words for each variable, one for each
+-- installation that a claim may reach, and a few more, for which 76 are enough.
+abbrev pub record_budget : (variables : ℕ) → ℕ
+record_budget variables = 12 * (2 * variables + (REACH + 76))
+
+-- bytes of the file
+abbrev pub certificate_budget : FileSize → ℕ
+certificate_budget size =
+    record_budget size.variables * (size.packages + 2 + size.questions * (size.limit + 2))
+
+-- the number is below its budget
+abbrev pub IsBelowFileBudget : Limits → FileSize → What → Type 0
+IsBelowFileBudget limits size Lines = limits.lines < line_budget size
+IsBelowFileBudget limits size LineLiterals = limits.line_literals < literal_budget size
+IsBelowFileBudget limits size RecordLine = limits.record_line < record_budget size.variables
+IsBelowFileBudget limits size Certificate = limits.certificate < certificate_budget size
+IsBelowFileBudget limits size what = ⊥
+
+-- ---- a sweep
 
 -- the pairs of a cluster and one of its classes
 abbrev pub pair_count : Matter → ℕ
@@ -20,26 +58,15 @@ question_budget kinds.Strong matter = matter.packages * matter.packages
 question_budget kinds.Outdated matter = matter.packages
 question_budget kinds.Challenged matter = matter.packages + matter.packages * pair_count matter
 
-abbrev pub line_budget : CertKind → Matter → ℕ → ℕ
-line_budget kind matter limit = limit * question_budget kind matter
-
-abbrev pub literal_budget : CertKind → Matter → ℕ → ℕ
-literal_budget kind matter limit = matter.variables * line_budget kind matter limit
-
--- Bytes of a line, with its line feed: 12 for each word. A line has at most two words for each variable, one for each
--- installation that a claim may reach, and a few more, for which 76 are enough.
-abbrev pub record_budget : Matter → ℕ
-record_budget matter = 12 * (2 * matter.variables + (REACH + 76))
-
--- bytes of a certificate
-abbrev pub certificate_budget : CertKind → Matter → ℕ → ℕ
-certificate_budget kind matter limit =
-    record_budget matter * (matter.packages + 2 + question_budget kind matter * (limit + 2))
+-- where so many derived lines leave a question undecided
+abbrev pub sweep_size : CertKind → Matter → (limit : ℕ) → FileSize
+sweep_size kind matter limit = record {
+  packages = matter.packages;
+  variables = matter.variables;
+  questions = question_budget kind matter;
+  limit = limit;
+}
 
 -- the number is below its budget
-abbrev pub IsBelowBudget : Limits → CertKind → Matter → ℕ → What → Type 0
-IsBelowBudget limits kind matter limit Lines = limits.lines < line_budget kind matter limit
-IsBelowBudget limits kind matter limit LineLiterals = limits.line_literals < literal_budget kind matter limit
-IsBelowBudget limits kind matter limit RecordLine = limits.record_line < record_budget matter
-IsBelowBudget limits kind matter limit Certificate = limits.certificate < certificate_budget kind matter limit
-IsBelowBudget limits kind matter limit what = ⊥
+abbrev pub IsBelowBudget : Limits → CertKind → Matter → (limit : ℕ) → What → Type 0
+IsBelowBudget limits kind matter limit what = IsBelowFileBudget limits (sweep_size kind matter limit) what

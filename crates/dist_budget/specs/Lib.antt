@@ -1,2 +1,3 @@
 pub mod Budget
+pub mod SearchBudget
 pub mod BudgetExamples
