@@ -1,6 +1,7 @@
 -- What an undisturbed run comes to, from the end that it promises.
-use Rattle.std.proofs.Common.{◌≡◌, ◌⊎◌, ℕ, Bool, false, List, inl, inr, Option, Some, Result, ap, sym, ◌∙◌, subst}
+use Rattle.std.proofs.Common.{◌≡◌, ◌⊎◌, ℕ, ◌<◌, Bool, false, List, length, inl, inr, Option, Some, Result, ap, sym, ◌∙◌, subst}
 use Rattle.std.specs.List.{list_any}
+use Rattle.dist_base.specs.ListLaws.{within-from}
 use Rattle.dist_base.specs.declared.TheConstants.{DEFAULT_LIMIT}
 use Rattle.dist_outside.specs.Counts.{Rose}
 use Rattle.dist_outside.specs.DeskView.{DeskView}
@@ -15,7 +16,14 @@ use Rattle.dist_history.specs.PlanText.{misfit_text, plan_text}
 use Rattle.dist_now.specs.Health.{IsHealth}
 use Rattle.dist_now.specs.declared.kinds.Health.{Health as Judgement}
 use Rattle.dist_now.specs.declared.kinds.Health.TheVariants as health
-use Rattle.dist_budget.specs.Budget.{IsBelowBudget}
+use Rattle.dist_budget.specs.Budget.{IsBelowBudget, IsBelowFileBudget}
+use Rattle.dist_budget.specs.SearchBudget.{explanation_size, repair_size}
+use Rattle.dist_clause.specs.Formula.{Literal}
+use Rattle.dist_now.specs.PresentClauses.{ArePresentClauses}
+use Rattle.dist_inquiry.specs.Written.{IsFull as IsFullText}
+use Rattle.dist_explain_search.specs.ExplainAnswers.{OfExplain}
+use Rattle.dist_repair_search.specs.SearchAnswers.{OfRepair, header_with}
+use Rattle.dist_repair.specs.declared.verdict.RepairHeader.{RepairHeader}
 use Rattle.dist_cert.specs.Part.{IsStoppedBy}
 use Rattle.dist_cert.specs.declared.faults.ReadCertError.{ReadCertError}
 use Rattle.dist_cert.specs.declared.records.CertKind.{CertKind}
@@ -42,9 +50,10 @@ use Rattle.dist_commands.specs.CheckedFile.{IsOneAnswer}
 use Rattle.dist_commands.specs.Claims.{has_mark, marked_status}
 use Rattle.dist_commands.specs.Classes.{TellsClasses}
 use Rattle.dist_commands.specs.Command.{CommandDecides, CommandIsGivenUp, IsApart}
-use Rattle.dist_app.specs.Complete.{Completes, ExplainComesTo, IsComplete, IsStatusOfFile, IsStatusOfJournal, IsStatusOfLater, IsStatusOfRefused, IsStatusOfSet}
+use Rattle.dist_app.specs.Complete.{Completes, ExplainComesTo, ExplainStopsBelow, IsComplete, IsStatusOfFile, IsStatusOfJournal}
+use Rattle.dist_app.specs.Complete.{IsStatusOfLater, IsStatusOfRefused, IsStatusOfSet}
 use Rattle.dist_app.specs.Complete.{IsUndisturbed, StopsBelowBudget, TrialIsComplete, stop_status, told_claims, told_explained}
-use Rattle.dist_app.specs.Complete.{RepairComesTo, told_repair}
+use Rattle.dist_app.specs.Complete.{RepairComesTo, RepairStopsBelow, told_repair}
 use Rattle.dist_commands.specs.Explain.{Explains, explain_writing}
 use Rattle.dist_commands.specs.Follow.{IsEndOfJournal, JournalStage, JournalStages, TellsFollowed}
 use Rattle.dist_commands.specs.FollowPrivate.{AfterCertificate}
@@ -87,11 +96,23 @@ BudgetsSuffice = (r : PackageList) (kind : CertKind) (essential : Bool) (limit :
     → IsBasisOf r kind essential basis → IsStoppedBy (matter_of r basis) limits (header_of kind essential limit (matter_of r basis)) text what
     → IsBelowBudget limits kind (matter_of r basis) limit what
 
+-- and so is the search for an explanation, and that for a repair
+abbrev pub ExplanationBudgetsSuffice : Type 0
+ExplanationBudgetsSuffice = (r : PackageList) (relations : List (List Literal)) (number limit : ℕ) (limits : Limits) (what : What) (text : List ℕ)
+    → number < length r.packages → ArePresentClauses r false relations → OfExplain r number limit limits (λ g course. IsFullText g course what text)
+    → IsBelowFileBudget limits (explanation_size r relations limit) what
+
+abbrev pub RepairBudgetsSuffice : Type 0
+RepairBudgetsSuffice = (s : SpaceView) (h : RepairHeader) (limits : Limits) (what : What) (text : List ℕ)
+    → OfRepair s h limits (λ g course. IsFullText g course what text) → IsBelowFileBudget limits (repair_size s h) what
+
 -- what the ends of commands are told by
 pub record Laws : Type 0 where
   pub texts : AreExact
   pub health : HaveOneHealth
   pub budgets : BudgetsSuffice
+  pub explain_budgets : ExplanationBudgetsSuffice
+  pub repair_budgets : RepairBudgetsSuffice
 
 -- the status of an end
 status_from : (e f : Ending) → e ≡ f → e.status ≡ f.status
@@ -263,7 +284,7 @@ explain_ends : Laws → (files : Files) (limits : Limits) (packages cert named :
     → ExplainComesTo limits cert named limit r ending.status (Some files) ending.files
 explain_ends laws files limits packages cert named limit r ending read decides = record {
   none = λ nobody. none nobody rest;
-  one = λ number is_named kept. whole number
+  one = λ number is_named kept. whole number is_named
       (then_goes (NumbersStage (ExplainPasses r limits) (Some files)) (λ _. Explains (Some files) limits cert limit r number)
       (numbers_determined (ExplainPasses r limits) (λ what other. laws.texts.explain_numbers r limits what other order) (Some files)) tt kept ending
       (then_goes (NamedStage (Some files) r.packages named) (AfterNumber limits cert named limit (Some files) r)
@@ -281,12 +302,20 @@ explain_ends laws files limits packages cert named limit r ending read decides =
     none nobody (inl (found, is)) = ap (λ (x : Ending). x.status) is
     none nobody (inr (number, is_named, after)) = absurd (nobody number is_named)
 
-    whole : (number : ℕ) → Explains (Some files) limits cert limit r number ending → IsCarriedOut ending.status
-        ⊎ ((what : What) × (text : List ℕ) × (ending.status ≡ TooLarge) × (explain_writing limits limit r number).IsFull what text
-        × (ending.files ≡ with_file (Some files) cert text))
-    whole number (inl done) = inl (carried_marks ending.status (leaves_undecided done.made) (ap (λ (x : Ending). x.status) done.is))
-    whole number (inr stopped) =
-        inr (stopped.what, stopped.text, ap (λ (x : Ending). x.status) stopped.is, stopped.full, ap (λ (x : Ending). x.files) stopped.is)
+    whole : (number : ℕ) → IsNamed r.packages named number → Explains (Some files) limits cert limit r number ending
+        → IsCarriedOut ending.status ⊎ ExplainStopsBelow limits cert limit r number ending.status (Some files) ending.files
+    whole number is_named (inl done) = inl (carried_marks ending.status (leaves_undecided done.made) (ap (λ (x : Ending). x.status) done.is))
+    whole number is_named (inr stopped) = let of = stopped.full in inr (record {
+      what = stopped.what;
+      text = stopped.text;
+      stopped = ap (λ (x : Ending). x.status) stopped.is;
+      full = stopped.full;
+      left_is = ap (λ (x : Ending). x.files) stopped.is;
+      relations = of.1.clauses;
+      are_relations = of.1.are_clauses;
+      below = laws.explain_budgets r of.1.clauses number limit limits stopped.what stopped.text (within-from _ r.packages number is_named.found)
+          of.1.are_clauses stopped.full;
+    })
 
 -- ---- `repair`
 
@@ -325,12 +354,17 @@ repair_ends laws files limits packages cert named most limit newest ending read 
     none nobody (inl (found, is)) = ap (λ (x : Ending). x.status) is
     none nobody (inr (number, is_named, after)) = absurd (nobody number is_named)
 
-    whole : (number : ℕ) (space : SpaceView) → Repairs (Some files) limits cert most limit space number ending → IsCarriedOut ending.status
-        ⊎ ((what : What) × (text : List ℕ) × (ending.status ≡ TooLarge) × (repair_writing limits most limit space number).IsFull what text
-        × (ending.files ≡ with_file (Some files) cert text))
+    whole : (number : ℕ) (space : SpaceView) → Repairs (Some files) limits cert most limit space number ending
+        → IsCarriedOut ending.status ⊎ RepairStopsBelow limits cert most limit space number ending.status (Some files) ending.files
     whole number space (inl done) = inl (carried_marks ending.status (is_undecided done.made) (ap (λ (x : Ending). x.status) done.is))
-    whole number space (inr stopped) =
-        inr (stopped.what, stopped.text, ap (λ (x : Ending). x.status) stopped.is, stopped.full, ap (λ (x : Ending). x.files) stopped.is)
+    whole number space (inr stopped) = inr (record {
+      what = stopped.what;
+      text = stopped.text;
+      stopped = ap (λ (x : Ending). x.status) stopped.is;
+      full = stopped.full;
+      left_is = ap (λ (x : Ending). x.files) stopped.is;
+      below = laws.repair_budgets space (header_with limit number most) limits stopped.what stopped.text stopped.full;
+    })
 
 -- what the newest versions of LATER come to, by those of PACKAGES
 told_later : (files : Option Files) (space : SpaceView) (l : PackageList) (ending : Ending) (tells : TellsLater files space l ending)

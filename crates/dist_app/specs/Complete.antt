@@ -11,8 +11,11 @@ use Rattle.dist_repo.specs.Order.{IsLatestOf}
 use Rattle.dist_repo.specs.PackageList.{PackageList}
 use Rattle.dist_space.specs.Space.{SpaceView}
 use Rattle.dist_now.specs.Health.{IsHealth}
+use Rattle.dist_now.specs.PresentClauses.{ArePresentClauses}
 use Rattle.dist_now.specs.declared.kinds.Health.TheVariants.{Healthy}
-use Rattle.dist_budget.specs.Budget.{IsBelowBudget}
+use Rattle.dist_budget.specs.Budget.{IsBelowBudget, IsBelowFileBudget}
+use Rattle.dist_budget.specs.SearchBudget.{explanation_size, repair_size}
+use Rattle.dist_clause.specs.Formula.{Literal}
 use Rattle.dist_cert.specs.Part.{IsStoppedBy}
 use Rattle.dist_cert.specs.declared.faults.ReadCertError.{ReadCertError}
 use Rattle.dist_cert.specs.declared.faults.ReadCertError.TheVariants.{Bad, Work}
@@ -28,6 +31,7 @@ use Rattle.dist_explain.specs.declared.verdict.ExplainHeader.{ExplainHeader}
 use Rattle.dist_repair.specs.RepairFiles.{PassesWith}
 use Rattle.dist_repair.specs.declared.repair.Repair.{Repair}
 use Rattle.dist_repair.specs.declared.verdict.RepairHeader.{RepairHeader}
+use Rattle.dist_repair_search.specs.SearchAnswers.{header_with}
 use Rattle.dist_journal.specs.declared.fault.FollowError.{FollowError}
 use Rattle.dist_journal.specs.declared.fault.FollowError.TheVariants as follow_error
 use Rattle.dist_words.specs.CommandLine.{Health, Classes, Sweep, Check, CheckExplain, Explain, CheckRepair}
@@ -53,8 +57,8 @@ use Rattle.dist_commands.specs.TextStage.{TextStage}
 use Rattle.dist_commands.specs.Try.{ArchiveStage}
 use Rattle.dist_commands.specs.WrittenFile.{NumbersStage}
 use Rattle.dist_commands.specs.declared.status.Status.{Status}
-use Rattle.dist_commands.specs.declared.status.Status.TheVariants.{Done, CertificateRefused, NoMemory, TooLarge, NotHealthy}
-use Rattle.dist_commands.specs.declared.status.Status.TheVariants.{BadJournal, NotAFuture, NoSuchPackage}
+use Rattle.dist_commands.specs.declared.status.Status.TheVariants.{Done, CertificateRefused, NoMemory, TooLarge}
+use Rattle.dist_commands.specs.declared.status.Status.TheVariants.{NotHealthy, BadJournal, NotAFuture, NoSuchPackage}
 
 -- The desk tells its files, and no fault of the desk or of `out` was counted.
 pub record IsUndisturbed (desk desk' : DeskView) (out out' : SinkView) : Type 0 where
@@ -162,14 +166,26 @@ CheckRepairIsComplete words limits result files = (packages cert : List ℕ) (r 
 
 -- ---- `explain`
 
+-- The search for an explanation stopped at a number that is below its budget, by the clauses of the relations, with a
+-- full part of a file in CERT.
+pub record ExplainStopsBelow (limits : Limits) (cert : List ℕ) (limit : ℕ) (r : PackageList) (number : ℕ)
+    (status : Status) (files left : Option Files) : Type 0 where
+  pub what : What
+  pub text : List ℕ
+  pub stopped : status ≡ TooLarge
+  pub full : (explain_writing limits limit r number).IsFull what text
+  pub left_is : left ≡ with_file files cert text
+  pub relations : List (List Literal)
+  pub are_relations : ArePresentClauses r false relations
+  pub below : IsBelowFileBudget limits (explanation_size r relations limit) what
+
 -- 13 exactly where the option names no package. Else, where the clauses with selectors keep their numbers, the file is
--- written and its answer told, or a number stopped it, with a full part of a file in CERT.
+-- written and its answer told, or a number stopped it that is below its budget.
 pub record ExplainComesTo (limits : Limits) (cert named : List ℕ) (limit : ℕ) (r : PackageList) (status : Status)
     (files left : Option Files) : Type 0 where
   pub none : ((number : ℕ) → ¬ IsNamed r.packages named number) → status ≡ NoSuchPackage
   pub one : (number : ℕ) → IsNamed r.packages named number → NumbersStage (PassesFirst r limits) files (Goes tt)
-      → IsCarriedOut status ⊎ ((what : What) × (text : List ℕ) × (status ≡ TooLarge)
-      × (explain_writing limits limit r number).IsFull what text × (left ≡ with_file files cert text))
+      → IsCarriedOut status ⊎ ExplainStopsBelow limits cert limit r number status files left
 
 abbrev pub ExplainIsComplete : List (List ℕ) → Limits → Status → (files left : Option Files) → Type 0
 ExplainIsComplete words limits result files left = (packages cert named : List ℕ) (limit : ℕ) (r : PackageList)
@@ -178,16 +194,24 @@ ExplainIsComplete words limits result files left = (packages cert named : List �
 
 -- ---- `repair`
 
+-- The search for a repair stopped at a number that is below its budget, with a full part of a file in CERT.
+pub record RepairStopsBelow (limits : Limits) (cert : List ℕ) (most limit : ℕ) (space : SpaceView) (number : ℕ)
+    (status : Status) (files left : Option Files) : Type 0 where
+  pub what : What
+  pub text : List ℕ
+  pub stopped : status ≡ TooLarge
+  pub full : (repair_writing limits most limit space number).IsFull what text
+  pub left_is : left ≡ with_file files cert text
+  pub below : IsBelowFileBudget limits (repair_size space (header_with limit number most)) what
+
 -- 13 exactly where the option names no package of the newest versions. Else, where the space and its clauses with a
--- counter keep their numbers, the file is written and its answer told, or a number stopped it, with a full part of a
--- file in CERT.
+-- counter keep their numbers, the file is written and its answer told, or a number stopped it that is below its budget.
 pub record RepairComesTo (limits : Limits) (cert named : List ℕ) (most limit : ℕ) (newest : PackageList)
     (status : Status) (files left : Option Files) : Type 0 where
   pub none : ((number : ℕ) → ¬ IsNamed newest.packages named number) → status ≡ NoSuchPackage
   pub one : (number : ℕ) (space : SpaceView) → IsNamed newest.packages named number
       → PlainSpaceStage files limits newest (Goes space) → NumbersStage (PassesWith space most limits) files (Goes tt)
-      → IsCarriedOut status ⊎ ((what : What) × (text : List ℕ) × (status ≡ TooLarge)
-      × (repair_writing limits most limit space number).IsFull what text × (left ≡ with_file files cert text))
+      → IsCarriedOut status ⊎ RepairStopsBelow limits cert most limit space number status files left
 
 abbrev pub RepairIsComplete : List (List ℕ) → Limits → Status → (files left : Option Files) → Type 0
 RepairIsComplete words limits result files left =

@@ -7,7 +7,7 @@ ghost use Rattle.dist_app.specs.Headline.{CheckExplainIsProved, CheckIsProved, C
 ghost use Rattle.dist_app.specs.Run.{Leaves, Runs};
 ghost use Rattle.dist_app.specs.CarriedPrivate.{IsAnswered, IsRefused, Prints};
 
-use dist_budget::budgets_are_enough;
+use dist_budget::{budgets_are_enough, explanation_budgets_are_enough, repair_budgets_are_enough};
 use dist_check::{
     accepted_claims_hold, marks_are_tried, texts_have_one_answer, undecided_questions_are_hard,
 };
@@ -100,6 +100,8 @@ pub fn run_with<D: Desk, W: Sink, E: Sink>(
     packages_are_exact();
     one_health();
     budgets_are_enough();
+    explanation_budgets_are_enough();
+    repair_budgets_are_enough();
     texts_have_one_answer();
     explanations_have_one_answer();
     first_numbers_are_one();

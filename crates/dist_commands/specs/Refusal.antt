@@ -10,9 +10,9 @@ use Rattle.dist_commands.specs.JournalText.{journal_fault_text}
 use Rattle.dist_commands.specs.declared.status.Status.{Status}
 use Rattle.dist_commands.specs.declared.status.Status.TheVariants as status
 use Rattle.dist_commands.specs.declared.refusal.Refusal.{Refusal}
-use Rattle.dist_commands.specs.declared.refusal.Refusal.TheVariants.{BadWords, BadPackages, CertificateRefused, ReadFault}
-use Rattle.dist_commands.specs.declared.refusal.Refusal.TheVariants.{WriteFault, NoMemory, TooLarge, BadList, BadJournal}
-use Rattle.dist_commands.specs.declared.refusal.Refusal.TheVariants.{NoSuchPackage}
+use Rattle.dist_commands.specs.declared.refusal.Refusal.TheVariants.{BadWords, BadPackages, CertificateRefused}
+use Rattle.dist_commands.specs.declared.refusal.Refusal.TheVariants.{ReadFault, WriteFault, NoMemory, TooLarge}
+use Rattle.dist_commands.specs.declared.refusal.Refusal.TheVariants.{BadList, BadJournal, NoSuchPackage}
 
 -- the status of a run that was given up for this
 abbrev pub status_of : Refusal → Status

@@ -121,7 +121,14 @@ const TOO_LARGE: Row = Row {
     ..EXPLAINED
 };
 
-const STOPS: [Row; 5] = [
+/// What a run comes to whose file could not be written.
+const UNWRITTEN: Row = Row {
+    status: Status::WriteFault,
+    err: "distfuture: write fault\n",
+    ..TOO_LARGE
+};
+
+const STOPS: [Row; 6] = [
     Row {
         packages: "no colon\n",
         status: Status::BadPackages,
@@ -144,11 +151,21 @@ const STOPS: [Row; 5] = [
         after: After::Is("distfuture-explain 1 10000 2 2 1\n"),
         ..TOO_LARGE
     },
+    // The file is not made.
     Row {
-        failing: Failing { desk: 5, ..NOTHING },
-        status: Status::WriteFault,
-        err: "distfuture: write fault\n",
-        ..TOO_LARGE
+        failing: Failing {
+            desk: 13,
+            ..NOTHING
+        },
+        ..UNWRITTEN
+    },
+    Row {
+        failing: Failing {
+            desk: 15,
+            ..NOTHING
+        },
+        after: After::Is("distfut"),
+        ..UNWRITTEN
     },
 ];
 

@@ -201,6 +201,8 @@ returns-in-Ok-clause-complete g c =
       };
       health = c.one_health.ensures;
       budgets = c.budgets_are_enough.ensures;
+      explain_budgets = c.explanation_budgets_are_enough.ensures;
+      repair_budgets = c.repair_budgets_are_enough.ensures;
     })
     _ c.args.limits.now c.in-Ok.status (g.D.Desk.view c.args.desk.now) (g.D.Desk.view c.carry_out.new.desk) (g.W.Sink.view c.args.out.now)
     (g.W.Sink.view c.carry_out.new.out)
@@ -227,6 +229,8 @@ returns-in-Err-clause-complete g c =
       };
       health = c.one_health.ensures;
       budgets = c.budgets_are_enough.ensures;
+      explain_budgets = c.explanation_budgets_are_enough.ensures;
+      repair_budgets = c.repair_budgets_are_enough.ensures;
     })
     _ c.args.limits.now c.status-status.result (g.D.Desk.view c.args.desk.now) (g.D.Desk.view c.carry_out.new.desk) (g.W.Sink.view c.args.out.now)
     (g.W.Sink.view c.carry_out.new.out)
