@@ -270,7 +270,7 @@ repair_determined one files limits cert s = check_determined (RepairReads s limi
 
 pub newest_determined : AreExact → (files : Files) (limits : Limits) (packages : List ℕ) → IsDetermined (NewestStage (Some files) limits packages)
 newest_determined exact files limits packages (Goes a) (Goes b) (r, read, latest) (r', read', latest') =
-    let same : r' ≡ r = same_value r r' (packages_determined exact files limits packages (Goes r) (Goes r') read read') in
+    let same : r' ≡ r = same_value r' r (packages_determined exact files limits packages (Goes r) (Goes r') read read') in
     ap Goes (exact.newest r a b latest (subst (λ (x : PackageList). IsLatestOf x b) same latest'))
 newest_determined exact files limits packages (Goes a) (Ends e) (r, read, latest) ends =
     absurd (apart e r (packages_determined exact files limits packages (Goes r) (Ends e) read ends))

@@ -7,7 +7,7 @@ use Rattle.dist_outside.specs.declared.limits.Limits.{Limits}
 use Rattle.dist_repo.specs.PackageList.{PackageList}
 use Rattle.dist_space.specs.Space.{IsSpace, SpaceView}
 use Rattle.dist_space.specs.SpaceOf.{IsSpaceOf}
-use Rattle.dist_findings.specs.Answers.{IsAnswered}
+use Rattle.dist_findings.specs.Answers.{IsAnswered as IsAnsweredFile}
 use Rattle.dist_repair.specs.Answered.{Answers}
 use Rattle.dist_repair.specs.RepairFiles.{PassesWith, asked_by, repair_files}
 use Rattle.dist_repair.specs.Verdicts.{AcceptedSays, IsHeaderOf}
@@ -233,7 +233,7 @@ module _ (limits : Limits) (packages cert : List ℕ) (result : Status) (desk de
 -- the law of the checker
 abbrev pub RepairsHold : Type 0
 RepairsHold = (s : SpaceView) (limits : Limits) (text numbers : List ℕ) (h : RepairHeader) (repair : Repair) → IsSpace s → IsHeaderOf numbers h
-    → IsAnswered (repair_files s) limits text numbers (λ found. Answers s (asked_by numbers) found repair) → AcceptedSays s h repair
+    → IsAnsweredFile (repair_files s) limits text numbers (λ found. Answers s (asked_by numbers) found repair) → AcceptedSays s h repair
 
 module _ (hold : RepairsHold) (limits : Limits) (packages cert named : List ℕ) (most limit : ℕ) (result : Status) (desk desk' : DeskView)
     (out out' : SinkView) (ending : Ending) (status_is : result ≡ ending.status) (carried : IsCarriedOut ending.status)
