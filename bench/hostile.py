@@ -450,7 +450,7 @@ def main(program, bench=None, *chosen):
                 print(f"{told}: not tried, no dist_bench was named")
                 continue
             if is_load:
-                cert = os.path.getsize(f"{folder}/cert") if "cert" in words else 0
+                cert = os.path.getsize(f"{folder}/cert") if os.path.exists(f"{folder}/cert") else 0
                 whole, memory, ended = results[-1]
                 growth = whole / results[0][0]
                 is_slow = bool(power) and whole >= LEAST_SECONDS and growth > MOST_GROWTH**power
