@@ -281,7 +281,7 @@ def broken_chain(n):
 
 def broken_choice(n):
     """One package that needs one of so many, none of which can be installed."""
-    return "".join(stanza(f"b{k:06}", more="Depends: nowhere\n") for k in range(n)) + stanza("p", more="Depends: " + " | ".join(f"b{k:06}" for k in range(n)) + "\n")
+    return "".join(stanza(f"b{k:06}", more="Depends: nowhere\n") for k in range(n)) + stanza("a", more="Depends: " + " | ".join(f"b{k:06}" for k in range(n)) + "\n")
 
 
 def broken_choices(n):
@@ -332,7 +332,7 @@ SWEEPS = ("strong", "outdated", "challenged")
 # Files in which one package is asked for: the size, the file, the command with its options, and the power with which its certificate grows.
 QUESTIONS = {
     "a chain of so many to what is not there": (2_000, broken_chain, ["explain"], 2),
-    "one that needs one of so many, all broken": (1_000, broken_choice, ["explain"], 2),
+    "one that needs one of so many, all broken": (2_000, broken_choice, ["explain"], 2),
     "one that needs a later version of each of so many": (20_000, needs_later, ["repair"], 1),
     "one that needs a later version of each of so many, counted to 64": (20_000, needs_later, ["repair", "--most", "64"], 1),
     "one that needs a later version of one of two, so many times": (20_000, needs_later_of_pairs, ["repair"], 1),
