@@ -104,11 +104,13 @@ def edited(draw, data):
 
 
 def one(runner, draw, tried):
-    data, packages, arch = small.readable_archive(draw, 6)
+    packages = range(15)
+    while len(packages) > 14:
+        data, packages, arch = small.readable_archive(draw, 6)
     relations = Relations(packages, arch)
     runner.put("packages", data)
     for k, p in enumerate(packages):
-        limit = draw.choice([None, None, 1, 1, 2, 3, 7])
+        limit = draw.choice([None, None, 1, 1, 2, 3, 7] if len(packages) < 8 else [None, 1, 2, 3, 4, 6, 9])
         words = ["explain", "/packages", "/cert", "--package", small.label(p)] + ([] if limit is None else ["--limit", str(limit)])
         answer = runner.run(*words, writes="cert")
         cert = runner.get("cert")

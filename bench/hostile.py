@@ -274,6 +274,48 @@ def of_bytes(n):
     return text[:-1] + "X-Fill: " + "x" * (n - len(text) - 8) + "\n"
 
 
+def broken_chain(n):
+    """Each package needs the next one, and the last one what is not there."""
+    return "".join(stanza(f"p{k:06}", more=f"Depends: p{k - 1:06}\n" if k else "Depends: nowhere\n") for k in range(n))
+
+
+def broken_choice(n):
+    """One package that needs one of so many, none of which can be installed."""
+    return "".join(stanza(f"b{k:06}", more="Depends: nowhere\n") for k in range(n)) + stanza("a", more="Depends: " + " | ".join(f"b{k:06}" for k in range(n)) + "\n")
+
+
+def broken_choices(n):
+    """So many packages that each need one of as many, all but one of which can't be installed."""
+    asks = "Depends: " + " | ".join(f"b{k:06}" for k in range(n)) + "\n"
+    return "".join(stanza(f"b{k:06}", more="Depends: nowhere\n" if k != n // 2 else "") for k in range(n)) + "".join(stanza(f"p{k:06}", more=asks) for k in range(n))
+
+
+def needs_later(n):
+    """One package that needs a later version of each of so many."""
+    return "".join(stanza(f"a{k:06}") for k in range(n)) + stanza("p", more="Depends: " + ", ".join(f"a{k:06} (= 2)" for k in range(n)) + "\n")
+
+
+def needs_later_of_pairs(n):
+    """One package that needs a later version of one of two, so many times."""
+    asks = ", ".join(f"a{k:06} (= 2) | b{k:06} (= 2)" for k in range(n))
+    return "".join(stanza(f"{letter}{k:06}") for letter in "ab" for k in range(n)) + stanza("p", more=f"Depends: {asks}\n")
+
+
+def many_cuts(n):
+    """So many packages of one source, whose versions above the top fall into 81 classes."""
+    return "".join(stanza(f"p{k:06}", more="Source: s\n") for k in range(n - 1)) + stanza("q", more="Depends: " + ", ".join(f"p000000 (<< {k})" for k in range(2, 42)) + "\n")
+
+
+def asked_of_all(n):
+    """So many packages that need one name, which as many provide."""
+    return "".join(stanza(f"p{k:06}", more="Depends: x\n") + stanza(f"q{k:06}", more="Provides: x\n") for k in range(n))
+
+
+def last_named(text):
+    """The words that name the last package of a file."""
+    return ["--package", text[text.rindex("Package: ") + 9 :].split("\n")[0] + "=1"]
+
+
 # The size, the file, and of each command the power of the size with which its certificate grows, where that is not 1.
 LOADS = {
     "a chain of so many, its end first": (200_000, lambda n: chain(n, "end"), {"outdated": 1, "challenged": 1}),
@@ -282,11 +324,35 @@ LOADS = {
     "a star of so many, with a bound": (200_000, lambda n: star(n, " (<< 2)"), {}),
     "one that needs so many": (200_000, wide_star, {}),
     "so many of one source": (200_000, one_source, {}),
-    "so many conflicts on a name that as many provide": (2_000, all_against_all, {kind: 2 for kind in ("health", "strong", "outdated", "challenged", "check")}),
+    "so many conflicts on a name that as many provide": (2_000, all_against_all, {kind: 2 for kind in ("health", "strong", "outdated", "challenged", "explain", "repair", "check")}),
     "so many mixed ones": (200_000, mixed, {}),
     "a file of so many bytes": (268_435_456, of_bytes, {}),
 }
 SWEEPS = ("strong", "outdated", "challenged")
+# Files in which one package is asked for: the size, the file, the command with its options, and the power with which its certificate grows.
+QUESTIONS = {
+    "a chain of so many to what is not there": (2_000, broken_chain, ["explain"], 2),
+    "one that needs one of so many, all broken": (2_000, broken_choice, ["explain"], 2),
+    "one that needs a later version of each of so many": (20_000, needs_later, ["repair"], 1),
+    "one that needs a later version of each of so many, counted to 64": (20_000, needs_later, ["repair", "--most", "64"], 1),
+    "one that needs a later version of one of two, so many times": (20_000, needs_later_of_pairs, ["repair"], 1),
+}
+
+
+def question_rows(told, size, make, words, power, check_power):
+    """A question about the last package of a file, and the check of its answer."""
+    kind = words[0]
+
+    def asked(n):
+        text = make(n)
+        return [kind, "packages", "cert", *words[1:], *last_named(text)], text, ""
+
+    def checked(n):
+        question, text, other = asked(n)
+        return [f"check-{kind}", "packages", "cert"], text, other, question
+
+    yield f"{kind} on {told}", (size, asked, power)
+    yield f"check of {kind} on {told}", (size, checked, check_power)
 
 
 def load_rows():
@@ -308,11 +374,23 @@ def load_rows():
             if kind in SWEEPS:
                 yield f"check of {kind} on {told}", (size, lambda n, make=make, kind=kind: (["check", "packages", "cert"], make(n), "", [kind, "packages", "cert"]),
                                                      powers.get("check", 1))
+        for kind in ("explain", "repair"):
+            yield from question_rows(told, size, make, [kind], powers.get(kind, 1), powers.get("check", 1))
+    for told, (size, make, words, power) in QUESTIONS.items():
+        yield from question_rows(told, size, make, words, power, power)
+    # The file itself has the square of the number.
+    yield "strong on so many that need one of as many broken ones", (1_000, lambda n: (["strong", "packages", "cert"], broken_choices(n), ""), 2)
     yield "classes on one stanza too many", (200_001, lambda n: (["classes", "packages"], mixed(n), ""), None)
     yield "classes on one byte too many", (268_435_457, lambda n: (["classes", "packages"], of_bytes(n), ""), None)
     yield "check of one derived line too many", (16_000_001, lambda n: (["check", "packages", "list"], stanza("a", more="Depends: b\n"), header() + "d -1 0 1\n" * n), None)
     yield "check of one literal too many", (8_000_000, lambda n: (["check", "packages", "list"], stanza("a", more="Depends: b\n") + "".join(stanza(f"b{k}") for k in range(8)),
         header("plain", "9 9 1") + "d -1 2 3 4 5 6 7 8 0 1\n" * n + "d -1 0 1\n"), None)
+    yield "health on a list of one byte too many", (268_435_457, lambda n: (["health", "packages", "list"], stanza("a"), "a 1" + "\n" * (n - 3)), None)
+    yield "outdated on more variables than may be", (200_000, lambda n: (["outdated", "packages", "cert"], many_cuts(n), ""), None)
+    yield "repair on more clauses than may be", (200_000, lambda n: (["repair", "packages", "cert", "--most", "64", "--package", "p000000=1"], star(n), ""), None)
+    yield "strong on more literals than may be", (8_000, lambda n: (["strong", "packages", "cert"], asked_of_all(n), ""), None)
+    yield "explain on more literals than may be", (8_000, lambda n: (["explain", "packages", "cert", "--package", "p000000=1"], asked_of_all(n), ""), None)
+    yield "check of a line of one byte too many", (1_073_741_825, lambda n: (["check", "packages", "list"], stanza("a"), header("plain", "1 1 0") + "x" * (n - 1) + "\n"), None)
 
 
 # Runs a program and prints its seconds of the processor, its most memory and its status. It is a process of its own, since the memory of the one
@@ -372,7 +450,7 @@ def main(program, bench=None, *chosen):
                 print(f"{told}: not tried, no dist_bench was named")
                 continue
             if is_load:
-                cert = os.path.getsize(f"{folder}/cert") if "cert" in words else 0
+                cert = os.path.getsize(f"{folder}/cert") if os.path.exists(f"{folder}/cert") else 0
                 whole, memory, ended = results[-1]
                 growth = whole / results[0][0]
                 is_slow = bool(power) and whole >= LEAST_SECONDS and growth > MOST_GROWTH**power

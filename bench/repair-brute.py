@@ -10,6 +10,7 @@ accepts is true. It prints how many answers of each form agreed; at the first th
 """
 import collections
 import importlib.util
+import math
 import os
 import re
 import sys
@@ -27,8 +28,11 @@ class Moves(small.Later):
     """Of each package, all sets of moved clusters, as pairs of cluster and place, with which it can be installed."""
 
     def walk(self):
+        """Where there are few ways to move, each of them is tried."""
         self.ways = [set() for _ in self.packages]
-        super().walk()
+        self.is_small = math.prod(1 + len(its) for its in self.places) <= 2000
+        if self.is_small:
+            super().walk()
 
     def of_set(self, s, need, free, offers, fresh):
         self.ever |= s
@@ -106,7 +110,7 @@ def one(runner, draw, tried):
         data, packages, arch = small.readable_archive(draw, 5)
         newest = sc.newest(packages)
         moves = Moves(newest, arch, False)
-        if newest and sum(map(len, moves.places)) <= 18:
+        if newest and moves.is_small:
             break
     runner.put("packages", data)
     for k, p in enumerate(newest):
