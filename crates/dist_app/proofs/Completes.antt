@@ -54,7 +54,7 @@ use Rattle.dist_app.specs.Complete.{Completes, ExplainComesTo, ExplainStopsBelow
 use Rattle.dist_app.specs.Complete.{IsStatusOfLater, IsStatusOfRefused, IsStatusOfSet}
 use Rattle.dist_app.specs.Complete.{IsUndisturbed, StopsBelowBudget, TrialIsComplete, stop_status, told_claims, told_explained}
 use Rattle.dist_app.specs.Complete.{RepairComesTo, RepairStopsBelow, told_repair}
-use Rattle.dist_commands.specs.Explain.{Explains, explain_writing}
+use Rattle.dist_commands.specs.Explain.{Explains}
 use Rattle.dist_commands.specs.Follow.{IsEndOfJournal, JournalStage, JournalStages, TellsFollowed}
 use Rattle.dist_commands.specs.FollowPrivate.{AfterCertificate}
 use Rattle.dist_app.specs.Headline.{IsCarriedOut}
@@ -62,7 +62,7 @@ use Rattle.dist_commands.specs.Health.{Judges, ListStage, ListStages, Tells}
 use Rattle.dist_commands.specs.NamedStage.{NamedStage}
 use Rattle.dist_commands.specs.OneSpaceLaws.{HaveOneNewest}
 use Rattle.dist_commands.specs.PackagesStage.{PackagesStage}
-use Rattle.dist_commands.specs.Repair.{NewestStage, PlainSpaceStage, Repairs, repair_writing}
+use Rattle.dist_commands.specs.Repair.{NewestStage, PlainSpaceStage, Repairs}
 use Rattle.dist_app.specs.Run.{Comes, Decides, IsRunGivenUp, Runs}
 use Rattle.dist_commands.specs.Stages.{Ending, Goes, Then, answered}
 use Rattle.dist_commands.specs.SpaceStage.{SpaceStage}

@@ -22,7 +22,6 @@ use Rattle.dist_repair.specs.RepairFiles.{PassesWith}
 use Rattle.dist_repair.specs.Verdicts.{is_undecided}
 use Rattle.dist_cert.specs.declared.faults.ReadCertError.{ReadCertError}
 use Rattle.dist_cert.specs.declared.faults.ReadCertError.TheVariants.{Bad, Work}
-use Rattle.dist_cert.specs.declared.records.CertKind.{CertKind}
 use Rattle.dist_cert.specs.declared.records.CertKind.TheVariants as kinds
 use Rattle.dist_subject.specs.Limited.{PassesFirst}
 use Rattle.dist_trial.specs.Summary.{has_marks}

@@ -6,13 +6,12 @@ use Rattle.dist_base.specs.Ascii.{line_feed}
 use Rattle.dist_base.specs.Front.{IsFrontOf}
 use Rattle.dist_outside.specs.DeskView.{DeskView}
 use Rattle.dist_outside.specs.Files.{with_file}
-use Rattle.dist_cert.specs.FileLines.{file_text, lines_text}
+use Rattle.dist_cert.specs.FileLines.{lines_text}
 use Rattle.dist_cert.specs.Form.{record_text}
 use Rattle.dist_cert.specs.Writing.{ended}
 use Rattle.dist_cert.specs.declared.records.CertRecord.{CertRecord}
 use Rattle.dist_cert.specs.declared.records.CertRecord.TheVariants.{End}
 use Rattle.dist_findings.specs.AnswerFiles.{Inputs}
-use Rattle.dist_inquiry.specs.AnswerText.{whole_text}
 use Rattle.dist_inquiry.specs.Inquiry.{Setting}
 use Rattle.dist_inquiry.specs.Written.{Course, IsCutText, IsWholeText, LeavesCut}
 

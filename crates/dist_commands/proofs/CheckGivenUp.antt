@@ -1,5 +1,5 @@
 -- Why a check is given up.
-use Rattle.std.proofs.Common.{◌≡◌, ℕ, List, inl, inr, Option, Result, Ok, Err, refl}
+use Rattle.std.proofs.Common.{ℕ, List, inl, inr, Result, Err, refl}
 use Rattle.dist_outside.specs.DeskView.{DeskView}
 use Rattle.dist_outside.specs.Files.{IsPresent, file_bytes}
 use Rattle.dist_outside.specs.declared.trouble.WorkError.{WorkError}

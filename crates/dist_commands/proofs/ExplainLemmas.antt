@@ -17,13 +17,13 @@ use Rattle.dist_explain.specs.declared.explained.Explained.{Explained}
 use Rattle.dist_explain_search.specs.ExplainAnswers.{ExplainAnswers, OfExplain, explain_course, explain_setting}
 use Rattle.dist_words.specs.CommandLine.{Explain}
 use Rattle.dist_commands.specs.Command.{CommandDecides}
-use Rattle.dist_commands.specs.DuePrivate.{IsPartGivenUp, WriterAnswers}
+use Rattle.dist_commands.specs.DuePrivate.{WriterAnswers}
 use Rattle.dist_commands.specs.Stops.{Stops}
 use Rattle.dist_commands.specs.Explain.{IsExplainReached, explain_writing}
 use Rattle.dist_commands.specs.ExplainPrivate.{ExplainStops, IsFoundAndWritten}
 use Rattle.dist_commands.specs.NamedStage.{NamedStage}
 use Rattle.dist_commands.specs.PackagesStage.{PackagesStage}
-use Rattle.dist_commands.specs.Stages.{Ending, Ends, Goes, answered, refused}
+use Rattle.dist_commands.specs.Stages.{Ends, Goes, answered, refused}
 use Rattle.dist_commands.specs.WrittenFile.{LeavesCut}
 use Rattle.dist_commands.specs.declared.refusal.Refusal.{Refusal}
 use Rattle.dist_commands.specs.declared.status.Status.{Status}

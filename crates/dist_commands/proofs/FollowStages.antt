@@ -8,8 +8,6 @@ use Rattle.dist_repo.specs.Size.{IsWithinSize}
 use Rattle.dist_space.specs.Space.{SpaceView}
 use Rattle.dist_cert.specs.declared.records.CertKind.{CertKind}
 use Rattle.dist_cert.specs.declared.records.CertKind.TheVariants.{Challenged}
-use Rattle.dist_cert.specs.declared.records.Claim.{Claim}
-use Rattle.dist_cert.specs.declared.records.Header.{Header}
 use Rattle.dist_check.specs.Answers.{AcceptedMeans}
 use Rattle.dist_check.specs.Means.{Means, MeansChallenged}
 use Rattle.dist_commands.specs.Check.{CertificateStage}

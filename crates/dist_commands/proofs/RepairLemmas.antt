@@ -1,5 +1,5 @@
 -- What `repair` comes to, stage by stage.
-use Rattle.std.proofs.Common.{◌≡◌, ◌≤◌, ◌<◌, ℕ, false, List, inl, inr, length, Option, Some, None, Result, Ok, Err, refl, ap, sym, ◌∙◌, subst, arith}
+use Rattle.std.proofs.Common.{◌≡◌, ◌<◌, ℕ, false, List, inl, inr, length, Option, Some, None, Result, Ok, Err, ap, sym, ◌∙◌, subst, arith}
 use Rattle.dist_outside.specs.DeskView.{DeskView, OnlyReads}
 use Rattle.dist_outside.specs.Files.{Files}
 use Rattle.dist_outside.specs.declared.limits.Limits.{Limits}
@@ -29,7 +29,7 @@ use Rattle.dist_commands.specs.LaterPrivate.{HasNoSpace}
 use Rattle.dist_commands.specs.NamedStage.{NamedStage}
 use Rattle.dist_commands.specs.Repair.{IsRepairReached, NewestStage, PlainSpaceStage, repair_writing}
 use Rattle.dist_commands.specs.RepairPrivate.{IsNamedAndWritten, NamedStops}
-use Rattle.dist_commands.specs.Stages.{Ending, Ends, Goes, answered, refused}
+use Rattle.dist_commands.specs.Stages.{Ending, Ends, answered, refused}
 use Rattle.dist_commands.specs.Steps.{IsNewestIn}
 use Rattle.dist_commands.specs.WrittenFile.{LeavesCut}
 use Rattle.dist_commands.specs.declared.refusal.Refusal.{Refusal}

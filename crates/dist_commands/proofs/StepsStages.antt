@@ -1,5 +1,5 @@
 -- The stages of `steps`, one after another, and those that make the space of a file.
-use Rattle.std.proofs.Common.{◌≡◌, ◌<◌, ◌≤◌, ℕ, Bool, false, List, length, inl, inr, Option, Result, Ok, Err, IfOk, IfErr, ap, sym, subst}
+use Rattle.std.proofs.Common.{◌<◌, ◌≤◌, ℕ, Bool, false, List, length, inl, inr, Option, Result, Ok, Err, IfOk, IfErr, ap, sym, subst}
 use Rattle.dist_outside.specs.Files.{Files}
 use Rattle.dist_outside.specs.DeskView.{DeskView, OnlyReads}
 use Rattle.dist_outside.specs.declared.limits.Limits.{Limits}

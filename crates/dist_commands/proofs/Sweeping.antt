@@ -7,17 +7,13 @@ use Rattle.dist_outside.specs.declared.trouble.What.{What}
 use Rattle.dist_outside.specs.declared.trouble.What.TheVariants as what
 use Rattle.dist_outside.specs.declared.trouble.WorkError.{WorkError}
 use Rattle.dist_outside.specs.declared.trouble.WorkError.TheVariants as work
-use Rattle.dist_repo.specs.Order.{IsInOrder}
 use Rattle.dist_repo.specs.PackageList.{PackageList}
 use Rattle.dist_cert.specs.declared.records.Claim.{Claim}
 use Rattle.dist_cert.specs.declared.records.Header.{Header}
 use Rattle.dist_cert.specs.declared.records.CertKind.{CertKind}
 use Rattle.dist_cert.specs.declared.records.CertKind.TheVariants as kinds
-use Rattle.dist_subject.specs.Completed.{IsCompleted}
-use Rattle.dist_subject.specs.Basis.{IsAccepted, matter_of}
 use Rattle.dist_subject.specs.Limited.{PassesFirst, PassesLater, PassesPresent}
-use Rattle.dist_sweep.specs.Sweep.{IsCutSweep, IsSweep, SweepAnswers, header_of}
-use Rattle.dist_check.specs.Means.{Means}
+use Rattle.dist_sweep.specs.Sweep.{IsCutSweep, IsSweep, SweepAnswers}
 use Rattle.dist_commands.specs.Claims.{IsReportOf}
 use Rattle.dist_commands.specs.DuePrivate.{WriterAnswers}
 use Rattle.dist_commands.specs.Sweeps.{sweep_writing}

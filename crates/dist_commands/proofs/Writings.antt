@@ -1,6 +1,6 @@
 -- What a writer comes to, as the command tells it.
-use Rattle.std.proofs.Common.{◌≡◌, ◌≢◌, ℕ, List, inl, inr, Option, Result, Ok, Err, refl, ap, sym, subst}
-use Rattle.dist_outside.specs.Files.{Files, Idle, with_file}
+use Rattle.std.proofs.Common.{◌≡◌, ◌≢◌, ℕ, List, inl, inr, Option, Result, Ok, Err, refl, ap, subst}
+use Rattle.dist_outside.specs.Files.{Files, Idle}
 use Rattle.dist_outside.specs.DeskView.{DeskView, Holds, OnlyReads}
 use Rattle.dist_outside.specs.Counts.{Rose}
 use Rattle.dist_outside.specs.declared.limits.Limits.{Limits}

@@ -1,15 +1,12 @@
 -- Why a part of a run was given up, and what it leaves of the desk. No public clause cites it.
-use Rattle.std.specs.Prelude.{◌≡◌, ◌≤◌, ◌⊎◌, ℕ, List, Option, Result, Ok, Err}
+use Rattle.std.specs.Prelude.{◌≡◌, ◌⊎◌, ℕ, List, Option, Result, Ok, Err}
 use Rattle.dist_outside.specs.Counts.{Rose}
-use Rattle.dist_outside.specs.Files.{Files, Idle, IsNotWriting}
+use Rattle.dist_outside.specs.Files.{Files, Idle}
 use Rattle.dist_outside.specs.DeskView.{DeskView, Holds}
-use Rattle.dist_outside.specs.declared.limits.Limits.{Limits}
 use Rattle.dist_outside.specs.declared.trouble.What.{What}
 use Rattle.dist_outside.specs.declared.trouble.What.TheVariants as what
 use Rattle.dist_outside.specs.declared.trouble.WorkError.{WorkError}
 use Rattle.dist_outside.specs.declared.trouble.WorkError.TheVariants as work
-use Rattle.dist_words.specs.CommandLine.{CommandLine}
-use Rattle.dist_commands.specs.Command.{CommandDecides, CommandIsGivenUp, IsApart}
 use Rattle.dist_commands.specs.Stages.{Ending, Ends, Goes, refused}
 use Rattle.dist_commands.specs.WrittenFile.{IsFilled, LeavesCut, NumbersStage, Writing}
 use Rattle.dist_commands.specs.declared.refusal.Refusal.{Refusal}

@@ -1,4 +1,3 @@
-use Rattle.dist_words.specs.CommandLine.{Explain}
 use Rattle.dist_commands.proofs.Due.{err_more, ok_more}
 use Rattle.dist_commands.proofs.ExplainLemmas.{explain_answers, explain_stops}
 use Rattle.dist_commands.proofs.explain_command.run_explain.Goals as goal

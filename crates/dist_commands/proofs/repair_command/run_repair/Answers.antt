@@ -1,4 +1,3 @@
-use Rattle.std.proofs.Common.{Err}
 use Rattle.dist_words.specs.CommandLine.{Repair}
 use Rattle.dist_commands.specs.PackagesStage.{PackagesStage}
 use Rattle.dist_commands.specs.Stages.{Ends}
