@@ -68,6 +68,28 @@ undecided:
   - "p=1"
 undecided_pairs: []' '' strong hard hard-cert --limit 1
 sed '$d' cert >cut
+wants 0 'package a=1
+installable' '' explain packages explained --package a=1
+wants 0 'package a=1
+installable' '' check-explain packages explained
+wants 1 'package p=1
+undecided' '' explain hard hard-explained --package p=1 --limit 1
+wants 1 'package p=1
+undecided' '' check-explain hard hard-explained
+wants 0 'package a=1
+least 0' '' repair packages repaired --package a=1
+wants 0 'package a=1
+least 0' '' check-repair packages repaired
+sed '$d' explained >cut-explained
+sed '$d' repaired >cut-repaired
+wants 4 '' "distfuture: certificate refused at line $(($(wc -l <explained))): Truncated" check-explain packages cut-explained
+wants 4 '' "distfuture: certificate refused at line $(($(wc -l <repaired))): Truncated" check-repair packages cut-repaired
+for command in explain repair; do
+    wants 13 '' 'distfuture: no such package' $command packages never --package a=2
+    wants 2 '' 'distfuture: bad command line' $command packages never
+    wants 5 '' 'distfuture: read fault' $command missing never --package a=1
+    wants 6 '' 'distfuture: write fault' $command packages missing/cert --package a=1
+done
 wants 4 '' "distfuture: certificate refused at line $(($(wc -l <cert))): Truncated" check packages cut
 wants 6 '' 'distfuture: write fault' strong packages missing/cert
 wants 2 '' 'distfuture: bad command line' check packages cert --essential
@@ -94,7 +116,8 @@ wants 10 '' 'distfuture: bad list at line 1' health packages unknown
 
 # Memory that is too small for the file.
 { printf 'Package: a\nVersion: 1\nDescription: ' && head -c 24000000 /dev/zero | tr '\0' x && echo; } >wide
-for words in 'classes wide' 'strong wide never' 'outdated wide never' 'challenged wide never' 'check wide cert' 'health wide alone'; do
+for words in 'classes wide' 'strong wide never' 'outdated wide never' 'challenged wide never' 'check wide cert' 'health wide alone' 'explain wide never --package a=1' 'repair wide never --package a=1' \
+    'check-explain wide explained' 'check-repair wide repaired'; do
     got=0
     (ulimit -v 24000 && exec "$program" $words >out 2>err) || got=$?
     if [ "$got" != 7 ] || [ "$(cat err)" != 'distfuture: no memory' ] || [ -s out ] || [ -e never ]; then
@@ -109,6 +132,10 @@ for kind in strong outdated challenged; do
         "$program" $kind packages "of $kind$mode" $mode >"report of $kind$mode"
         "$program" check packages "of $kind$mode" | cmp -s - "report of $kind$mode" || { echo "wrong: check of $kind$mode"; failed=1; }
     done
+done
+for command in explain repair; do
+    "$program" $command packages "of $command" --package a=1 >"report of $command"
+    "$program" check-$command packages "of $command" | cmp -s - "report of $command" || { echo "wrong: check-$command"; failed=1; }
 done
 "$program" health packages both >'report of health'
 "$program" classes packages >'report of classes'
@@ -158,6 +185,19 @@ for how in full closed broken; do
             fi
         done
     done
+    for command in explain repair; do
+        rm -f apart
+        with 1 $how $command packages apart --package a=1
+        if [ "$got" != 6 ] || [ "$(cat err)" != 'distfuture: write fault' ] || ! cmp -s "of $command" apart; then
+            echo "wrong: $command with a $how output ended with $got and told '$(cat err)', or its file is another"
+            failed=1
+        fi
+        with 1 $how check-$command packages apart
+        if [ "$got" != 6 ] || [ "$(cat err)" != 'distfuture: write fault' ] || ! cmp -s "of $command" apart; then
+            echo "wrong: check-$command with a $how output ended with $got and told '$(cat err)', or it changed its file"
+            failed=1
+        fi
+    done
     for words in 'health packages both' 'health packages alone' 'classes packages' 'try --size 2 --seed 0'; do
         with 1 $how $words
         if [ "$got" != 6 ] || [ "$(cat err)" != 'distfuture: write fault' ]; then
@@ -174,10 +214,15 @@ for kind in strong outdated challenged; do
     done
 done
 
+for command in explain repair; do
+    wants 6 '' 'distfuture: write fault' $command packages /dev/full --package a=1
+done
+
 # Standard error that takes nothing leaves the status as it is, and what is printed.
 for how in full closed broken; do
     for row in '3 health bad both' '3 classes bad' '3 strong bad never' '3 outdated bad never' '3 challenged bad never' '3 check bad cert' '2 try --size 2' '2' \
-        '4 check packages cut' '5 strong missing never' '6 outdated packages missing/cert' '8 health long both' '10 health packages unknown'; do
+        '3 explain bad never --package a=1' '3 repair bad never --package a=1' '13 explain packages never --package a=2' '13 repair packages never --package a=2' \
+        '4 check-explain packages cut-explained' '4 check-repair packages cut-repaired' '4 check packages cut' '5 strong missing never' '6 outdated packages missing/cert' '8 health long both' '10 health packages unknown'; do
         set -- $row
         wanted=$1
         shift
@@ -190,6 +235,13 @@ for how in full closed broken; do
     # What has nothing to tell does not care.
     for name in strong outdated challenged; do
         with 2 $how $name packages apart
+        if [ "$got" != 0 ] || ! cmp -s out "report of $name" || ! cmp -s apart "of $name"; then
+            echo "wrong: $name with a $how standard error ended with $got"
+            failed=1
+        fi
+    done
+    for name in explain repair; do
+        with 2 $how $name packages apart --package a=1
         if [ "$got" != 0 ] || ! cmp -s out "report of $name" || ! cmp -s apart "of $name"; then
             echo "wrong: $name with a $how standard error ended with $got"
             failed=1

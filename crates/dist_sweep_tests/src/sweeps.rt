@@ -2,7 +2,7 @@
 ghost use Rattle.dist_outside.specs.Files.{IsNotWriting};
 ghost use Rattle.dist_subject.specs.Limited.{AreStated};
 
-use dist_budget::budgets_are_enough;
+use dist_budget::{budgets_are_enough, explanation_budgets_are_enough, repair_budgets_are_enough};
 use dist_cert::Claims;
 use dist_outside::{Limits, MemoryDesk, What, WorkError};
 use dist_repo::Repository;
@@ -276,6 +276,8 @@ fn a_limit_stops_before_the_line_that_passes_it(rt: HostRuntime) {
 }
 
 #[test]
-fn the_law_holds() {
+fn the_laws_hold() {
     budgets_are_enough();
+    explanation_budgets_are_enough();
+    repair_budgets_are_enough();
 }

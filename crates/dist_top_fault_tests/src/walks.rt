@@ -1,8 +1,8 @@
 //! Rows of which calls fail in turn.
 use dist_app::Status;
 use dist_top_rows::{
-    After, Row, check_rows, classes_rows, essential_rows, follow_rows, futures_rows, health_rows,
-    steps_rows, strong_rows, trial_rows,
+    After, Row, check_explain_rows, check_rows, classes_rows, essential_rows, explain_rows,
+    follow_rows, futures_rows, health_rows, repair_rows, steps_rows, strong_rows, trial_rows,
 };
 
 /// A row of which calls fail in turn, and how many of its first calls of the desk read.
@@ -49,6 +49,16 @@ pub(crate) const ANSWERED: &[Walk] = &[
         reads: 15,
         row: essential_rows::CHALLENGED,
     },
+    Walk {
+        name: "explain",
+        reads: 12,
+        row: explain_rows::EXPLAINED,
+    },
+    Walk {
+        name: "repair",
+        reads: 12,
+        row: repair_rows::REPAIRED,
+    },
     // Commands that only read, and one that calls no desk.
     Walk {
         name: "check of strong",
@@ -79,6 +89,16 @@ pub(crate) const ANSWERED: &[Walk] = &[
         name: "check of challenged --essential",
         reads: ALL,
         row: essential_rows::CHECK_CHALLENGED,
+    },
+    Walk {
+        name: "check-explain",
+        reads: ALL,
+        row: check_explain_rows::EXPLAINED,
+    },
+    Walk {
+        name: "check-repair",
+        reads: ALL,
+        row: repair_rows::CHECKED,
     },
     Walk {
         name: "health",
@@ -188,6 +208,38 @@ pub(crate) const REFUSED: &[Walk] = &[
             ..NO_COLON
         },
     },
+    Walk {
+        name: "explain",
+        reads: 0,
+        row: Row {
+            words: &["explain", "packages", "cert", "--package", "a=1"],
+            ..NO_COLON
+        },
+    },
+    Walk {
+        name: "check-explain",
+        reads: 0,
+        row: Row {
+            words: &["check-explain", "packages", "cert"],
+            ..NO_COLON
+        },
+    },
+    Walk {
+        name: "repair",
+        reads: 0,
+        row: Row {
+            words: &["repair", "packages", "cert", "--package", "a=1"],
+            ..NO_COLON
+        },
+    },
+    Walk {
+        name: "check-repair",
+        reads: 0,
+        row: Row {
+            words: &["check-repair", "packages", "cert"],
+            ..NO_COLON
+        },
+    },
     // Lines of other kinds of refusals, of which one is told when the certificate is begun.
     Walk {
         name: "strong, too large",
@@ -203,6 +255,21 @@ pub(crate) const REFUSED: &[Walk] = &[
         name: "check of challenged, refused",
         reads: 0,
         row: check_rows::BEYOND,
+    },
+    Walk {
+        name: "explain, no such package",
+        reads: 0,
+        row: explain_rows::NO_SUCH_PACKAGE,
+    },
+    Walk {
+        name: "check-explain, refused",
+        reads: 0,
+        row: check_explain_rows::INCOMPLETE,
+    },
+    Walk {
+        name: "check-repair, refused",
+        reads: 0,
+        row: repair_rows::INCOMPLETE,
     },
     Walk {
         name: "health, a bad dependency",
