@@ -140,6 +140,8 @@ done
 "$program" health packages both >'report of health'
 "$program" classes packages >'report of classes'
 "$program" try --size 2 --seed 0 >'report of try'
+"$program" steps packages later >'report of steps'
+"$program" follow packages cert journal >'report of follow'
 
 # Runs a program with a pipe that nobody reads in the place of a stream, and without what Python does about the signal of such.
 broken='import os, signal, sys
@@ -198,7 +200,7 @@ for how in full closed broken; do
             failed=1
         fi
     done
-    for words in 'health packages both' 'health packages alone' 'classes packages' 'try --size 2 --seed 0'; do
+    for words in 'health packages both' 'health packages alone' 'classes packages' 'steps packages later' 'steps packages earlier' 'follow packages cert journal' 'try --size 2 --seed 0'; do
         with 1 $how $words
         if [ "$got" != 6 ] || [ "$(cat err)" != 'distfuture: write fault' ]; then
             echo "wrong: $words with a $how output ended with $got and told '$(cat err)'"
@@ -222,7 +224,7 @@ done
 for how in full closed broken; do
     for row in '3 health bad both' '3 classes bad' '3 strong bad never' '3 outdated bad never' '3 challenged bad never' '3 check bad cert' '2 try --size 2' '2' \
         '3 explain bad never --package a=1' '3 repair bad never --package a=1' '13 explain packages never --package a=2' '13 repair packages never --package a=2' \
-        '4 check-explain packages cut-explained' '4 check-repair packages cut-repaired' '4 check packages cut' '5 strong missing never' '6 outdated packages missing/cert' '8 health long both' '10 health packages unknown'; do
+        '4 check-explain packages cut-explained' '4 check-repair packages cut-repaired' '4 check packages cut' '5 strong missing never' '6 outdated packages missing/cert' '8 health long both' '10 health packages unknown' '11 follow packages cert twice'; do
         set -- $row
         wanted=$1
         shift
@@ -247,7 +249,7 @@ for how in full closed broken; do
             failed=1
         fi
     done
-    for row in 'health packages both' 'classes packages' 'try --size 2 --seed 0'; do
+    for row in 'health packages both' 'classes packages' 'steps packages later' 'follow packages cert journal' 'try --size 2 --seed 0'; do
         with 2 $how $row
         if [ "$got" != 0 ] || ! cmp -s out "report of ${row%% *}"; then
             echo "wrong: $row with a $how standard error ended with $got"
