@@ -10,6 +10,7 @@ trap 'rm -rf "$folder"' EXIT
 cd "$folder"
 printf 'Package: a\nVersion: 1\nDepends: b\n\nPackage: b\nVersion: 1\nConflicts: c\n\nPackage: c\nVersion: 1\n' >packages
 printf 'Package: a\nVersion: 1\nDescription\n' >bad
+printf 'Package: a\nVersion: 1\nDepends: b\n\nPackage: b\nVersion: 1\nConflicts: a\n' >broken
 printf 'a 1\nb 1\n' >both
 printf 'a 1\n' >alone
 printf 'd 1\n' >unknown
@@ -91,10 +92,30 @@ packages 2' '' follow packages cert journal
 wants 4 '' "distfuture: certificate refused at line $(($(wc -l <cert))): Truncated" follow packages cut journal
 wants 11 '' 'distfuture: bad journal at line 2: NotHeld' follow packages cert twice
 wants 10 '' 'distfuture: bad list at line 1' health packages unknown
+why='package a=1
+broken
+needs a=1: b
+apart a=1 b=1'
+wants 0 "$why" '' explain broken why --package a=1
+wants 0 "$why" '' check-explain broken why
+moves='package a=1
+least 1
+move b=1 to 1-0A'
+wants 0 "$moves" '' repair broken moves --package a=0:1
+wants 0 "$moves" '' check-repair broken moves
+wants 1 'package p=1
+undecided' '' explain hard why-hard --package p=1 --limit 1
+wants 4 '' 'distfuture: certificate refused at line 1: BadHeader' check-explain broken moves
+wants 4 '' 'distfuture: certificate refused at line 1: BadHeader' check-repair broken why
+wants 13 '' 'distfuture: no such package' explain broken never --package a=2
+wants 13 '' 'distfuture: no such package' repair broken never --package a
+wants 2 '' 'distfuture: bad command line' repair broken never --package a=1 --most 65
+wants 2 '' 'distfuture: bad command line' explain broken never
 
 # Memory that is too small for the file.
 { printf 'Package: a\nVersion: 1\nDescription: ' && head -c 24000000 /dev/zero | tr '\0' x && echo; } >wide
-for words in 'classes wide' 'strong wide never' 'outdated wide never' 'challenged wide never' 'check wide cert' 'health wide alone'; do
+for words in 'classes wide' 'strong wide never' 'outdated wide never' 'challenged wide never' 'check wide cert' 'health wide alone' \
+    'explain wide never --package a=1' 'repair wide never --package a=1' 'check-explain wide why' 'check-repair wide moves'; do
     got=0
     (ulimit -v 24000 && exec "$program" $words >out 2>err) || got=$?
     if [ "$got" != 7 ] || [ "$(cat err)" != 'distfuture: no memory' ] || [ -s out ] || [ -e never ]; then
@@ -158,7 +179,8 @@ for how in full closed broken; do
             fi
         done
     done
-    for words in 'health packages both' 'health packages alone' 'classes packages' 'try --size 2 --seed 0'; do
+    for words in 'health packages both' 'health packages alone' 'classes packages' 'try --size 2 --seed 0' \
+        'explain broken apart --package a=1' 'repair broken apart --package a=1' 'check-explain broken why' 'check-repair broken moves'; do
         with 1 $how $words
         if [ "$got" != 6 ] || [ "$(cat err)" != 'distfuture: write fault' ]; then
             echo "wrong: $words with a $how output ended with $got and told '$(cat err)'"
@@ -174,10 +196,15 @@ for kind in strong outdated challenged; do
     done
 done
 
+for kind in explain repair; do
+    wants 6 '' 'distfuture: write fault' $kind broken /dev/full --package a=1
+done
+
 # Standard error that takes nothing leaves the status as it is, and what is printed.
 for how in full closed broken; do
     for row in '3 health bad both' '3 classes bad' '3 strong bad never' '3 outdated bad never' '3 challenged bad never' '3 check bad cert' '2 try --size 2' '2' \
-        '4 check packages cut' '5 strong missing never' '6 outdated packages missing/cert' '8 health long both' '10 health packages unknown'; do
+        '4 check packages cut' '5 strong missing never' '6 outdated packages missing/cert' '8 health long both' '10 health packages unknown' \
+        '13 explain broken never --package a=2' '13 repair broken never --package a=2' '4 check-explain broken moves' '4 check-repair broken why'; do
         set -- $row
         wanted=$1
         shift
