@@ -72,15 +72,19 @@ FILES = {
 LISTS = {"a list": b"a 1\nb 1\n", "a list of one": b"\t a  1 \n", "a bad list": b"a 1\nx 1\n"}
 TEN_LINES = b"distfuture-certificate 1 strong plain 10000 2 2 1\nq 1\nm 1 2\nq 1 -2\nf 1\ns 1 1 0 2 0\nq 2\nm 2\ns 2 2 0 0\ne\n"
 KINDS = ("strong", "outdated", "challenged")
-# Of which package of a file an explanation and a repair are asked for, and at most how many clusters are counted to.
-ASKED = {"two that exclude each other": "a=1", "a library that may go too far": "p=1", "an essential one": "a=1", "sources, entries and new names": "libb=1:1.0-1",
-         "three groups of four": "p=1"}
+CHECKS = {**dict.fromkeys(KINDS, "check"), "explain": "check-explain", "repair": "check-repair"}
 LATER = {"a moved library and a new name": stanza("libx", "2") + "\n" + stanza("foo"), "no future": stanza("libx", "1", "Depends: p")}
 JOURNALS = {
     "an upload, a removal and a new name": b"= upload libx 2\nPackage: libx\nVersion: 2\n\n= new\nPackage: foo\nVersion: 1\nDepends: libx, a | b\n\n= removal foo\n",
     "a step that is refused": b"= upload libx 2\nPackage: libx\nVersion: 2\n\n= upload libx 2\n",
     "nothing": b"",
 }
+
+
+def last_named(text):
+    """The last package of a file."""
+    value = lambda field: text[text.rindex(field) :].split("\n")[0][len(field) :]
+    return f"{value('Package: ')}={value('Version: ')}" if text else "a=1"
 
 
 def rows():
@@ -93,19 +97,14 @@ def rows():
                 for old in (None, b"a text that lay there before\n" * 200):
                     if old is None or told.startswith("a library"):
                         yield f"{' '.join([kind, *mode])} of {told}" + (", over another file" if old else ""), [kind, "/packages", "/cert", *mode, *limit], {"packages": packages, "cert": old}
-        if told in ASKED:
-            for command in (["explain"], ["repair", "--most", "1"]):
-                yield f"{command[0]} of {told}", [command[0], "/packages", "/cert", "--package", ASKED[told], *command[1:], *limit], {"packages": packages, "cert": None}
         yield f"classes of {told}", ["classes", "/packages"], {"packages": packages}
+        for kind in ("explain", "repair"):
+            yield f"{kind} of {told}", [kind, "/packages", "/cert", "--package", last_named(text)], {"packages": packages}
         for name, text in LISTS.items():
             yield f"health of {name} in {told}", ["health", "/packages", "/list"], {"packages": packages, "list": text}
     two = FILES["two of which one needs the other"].encode()
     for told, text in (("ten lines", TEN_LINES), ("ten lines with a bad one", TEN_LINES.replace(b"f 1\n", b"f\n")), ("nine lines", TEN_LINES[:-2]), ("a word", b"word"), ("nothing", b"")):
         yield f"check of {told}", ["check", "/packages", "/cert"], {"packages": two, "cert": text}
-    for command in ("explain", "repair"):
-        yield f"{command} of no such package", [command, "/packages", "/cert", "--package", "a=2"], {"packages": two}
-        for told, text in (("a word", b"word"), ("nothing", b"")):
-            yield f"check-{command} of {told}", [f"check-{command}", "/packages", "/cert"], {"packages": two, "cert": text}
     library = FILES["a library that may go too far"].encode()
     for told, text in LATER.items():
         yield f"steps to {told}", ["steps", "/packages", "/list"], {"packages": library, "list": text.encode()}
@@ -165,14 +164,12 @@ def main(program, *chosen):
     while todo and not status:
         told, words, files = todo.pop(0)
         whole, count = runs.with_refused(words, files, 0)
-        if words[:1] and words[0] in KINDS and whole[0] < 2 and whole[3] not in certs.values():
+        if words[:1] and words[0] in CHECKS and whole[0] < 2 and whole[3] not in certs.values():
             certs[told] = whole[3]
-            todo.append((f"check of what {told} wrote", ["check", *words[1:3]], {**files, "cert": whole[3]}))
+            todo.append((f"check of what {told} wrote", [CHECKS[words[0]], *words[1:3]], {**files, "cert": whole[3]}))
             if words[0] == "challenged" and "library" in told:
                 for journal, text in JOURNALS.items():
                     todo.append((f"follow of {journal} by what {told} wrote", ["follow", *words[1:3], "/list"], {**files, "cert": whole[3], "list": text}))
-        if words[:1] and words[0] in ("explain", "repair") and whole[0] < 2:
-            todo.append((f"check of what {told} wrote", [f"check-{words[0]}", *words[1:3]], {**files, "cert": whole[3]}))
         passed = 0
         for lasts in (False, True):
             for number in range(1, count + 1):
