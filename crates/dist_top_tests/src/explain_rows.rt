@@ -55,7 +55,7 @@ apart d3=1 d5=1
 apart d4=1 d5=1
 ";
 
-const ANSWERS: [Row; 5] = [
+const ANSWERS: [Row; 6] = [
     EXPLAINED,
     // A package that nobody needs for it leaves no relation.
     Row {
@@ -81,6 +81,23 @@ const ANSWERS: [Row; 5] = [
         packages: "Package: a\nVersion: 1\nDepends: b\n\nPackage: a\nVersion: 2\n",
         out: "package a=1\nbroken\nneeds a=1: b\n",
         after: After::Begins("distfuture-explain 1 7 2 2 1\nq 1 3 4\nf "),
+        ..EXPLAINED
+    },
+    // So few derived lines leave it undecided.
+    Row {
+        words: &[
+            "explain",
+            "packages",
+            "cert",
+            "--package",
+            "p=1",
+            "--limit",
+            "1",
+        ],
+        packages: GROUPS,
+        status: Status::DoneWithUndecided,
+        out: "package p=1\nundecided\n",
+        after: After::Begins("distfuture-explain 1 1 21 45 21\n"),
         ..EXPLAINED
     },
     Row {

@@ -2,6 +2,7 @@
 use dist_app::Status;
 use dist_outside::What;
 use dist_top_rows::repair_rows::{CHECKED, INCOMPLETE, REFUSED, REPAIRED};
+use dist_top_rows::strong_rows::GROUPS;
 use dist_top_rows::{After, Row, Table, first_wrong};
 use std::test::Fail;
 
@@ -21,7 +22,24 @@ const TWO_MOVE: Row = Row {
     ..REPAIRED
 };
 
-const REPAIRS: [Row; 7] = [
+const REPAIRS: [Row; 8] = [
+    // So few derived lines leave the number undecided.
+    Row {
+        words: &[
+            "repair",
+            "packages",
+            "cert",
+            "--package",
+            "p=1",
+            "--limit",
+            "1",
+        ],
+        packages: GROUPS,
+        status: Status::DoneWithUndecided,
+        out: "package p=1\nat least 0\nundecided\nat most 5\nmove d1=1 to 1-0A\nmove d2=1 to 1-0A\nmove d3=1 to 1-0A\nmove d4=1 to 1-0A\nmove d5=1 to 1-0A\n",
+        after: After::Begins("distfuture-repair 1 1 21 "),
+        ..REPAIRED
+    },
     REPAIRED,
     TWO_MOVE,
     // Packages of one source move together.
@@ -108,7 +126,7 @@ const STOPS: [Row; 4] = [
     },
 ];
 
-const CHECKS: [Row; 4] = [
+const CHECKS: [Row; 5] = [
     CHECKED,
     INCOMPLETE,
     Row {
@@ -122,6 +140,12 @@ const CHECKS: [Row; 4] = [
         at_most: Some((What::Variables, 3)),
         status: Status::TooLarge,
         err: "distfuture: too large: Variables\n",
+        ..REFUSED
+    },
+    Row {
+        words: &["check-repair", "packages", "missing"],
+        status: Status::ReadFault,
+        err: "distfuture: read fault\n",
         ..REFUSED
     },
 ];
