@@ -179,8 +179,8 @@ pub record ExplainStopsBelow (limits : Limits) (cert : List ℕ) (limit : ℕ) (
   pub are_relations : ArePresentClauses r false relations
   pub below : IsBelowFileBudget limits (explanation_size r relations limit) what
 
--- 13 exactly where the option names no package. Else, where the clauses with selectors keep their numbers, the file is
--- written and its answer told, or a number stopped it that is below its budget.
+-- 13 where the option names no package, and only there (`Runs`). Else, where the clauses with selectors keep their
+-- numbers, the file is written and its answer told, or a number stopped it that is below its budget.
 pub record ExplainComesTo (limits : Limits) (cert named : List ℕ) (limit : ℕ) (r : PackageList) (status : Status)
     (files left : Option Files) : Type 0 where
   pub none : ((number : ℕ) → ¬ IsNamed r.packages named number) → status ≡ NoSuchPackage
@@ -204,8 +204,9 @@ pub record RepairStopsBelow (limits : Limits) (cert : List ℕ) (most limit : �
   pub left_is : left ≡ with_file files cert text
   pub below : IsBelowFileBudget limits (repair_size space (header_with limit number most)) what
 
--- 13 exactly where the option names no package of the newest versions. Else, where the space and its clauses with a
--- counter keep their numbers, the file is written and its answer told, or a number stopped it that is below its budget.
+-- 13 where the option names no package of the newest versions, and only there (`Runs`). Else, where the space and its
+-- clauses with a counter keep their numbers, the file is written and its answer told, or a number stopped it that is
+-- below its budget.
 pub record RepairComesTo (limits : Limits) (cert named : List ℕ) (most limit : ℕ) (newest : PackageList)
     (status : Status) (files left : Option Files) : Type 0 where
   pub none : ((number : ℕ) → ¬ IsNamed newest.packages named number) → status ≡ NoSuchPackage

@@ -48,5 +48,8 @@ pub const DEFAULT_LIMIT: u32 = 10_000;
 /// The most new lines of a question that can be given.
 pub const MAX_LIMIT: u32 = 1_000_000;
 
+/// The most clusters that may be counted as moving.
+pub const MAX_MOST: u32 = 64;
+
 /// Packages of a made archive.
 pub const MAX_SIZE: u32 = 2_000;

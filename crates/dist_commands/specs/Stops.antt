@@ -15,6 +15,8 @@ abbrev pub IsUnfinished : CommandLine → Limits → DeskView → DeskView → T
 IsUnfinished line limits old new =
     (new.files ≡ old.files) ⊎ CommandIsGivenUp line old.files limits NoMemory (refused new.files NoMemory)
 
+-- The inputs decide the refusal; or a fault of reading was counted, with all files as before; or one of writing, while
+-- a file was written; or memory was wanted.
 abbrev pub Stops : CommandLine → Limits → DeskView → DeskView → Refusal → Type 0
 Stops line limits old new refusal =
     CommandDecides line old.files limits (refused new.files refusal)

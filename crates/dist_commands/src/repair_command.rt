@@ -6,7 +6,7 @@ ghost use Rattle.dist_repo.specs.Size.{IsWithinSize};
 ghost use Rattle.dist_repair.specs.RepairFiles.{PassesWith};
 ghost use Rattle.dist_words.specs.CommandLine.{Repair};
 ghost use Rattle.dist_words.specs.Lines.{IsLimit};
-ghost use Rattle.dist_words.specs.declared.TheConstants.{MAX_MOST};
+ghost use Rattle.dist_base.specs.declared.TheConstants.{MAX_MOST};
 ghost use Rattle.dist_commands.specs.Command.{CommandDecides};
 ghost use Rattle.dist_commands.specs.DuePrivate.{WritingStops};
 ghost use Rattle.dist_commands.specs.Stops.{LeavesDesk, Stops};

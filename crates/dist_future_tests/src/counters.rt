@@ -3,10 +3,10 @@ ghost use Rattle.std.specs.Prelude.{◌≤◌};
 ghost use Rattle.dist_base.specs.declared.TheConstants.{MAX_CLAUSES, MAX_LITERALS, MAX_VARIABLES};
 
 use crate::spaces::small_space;
-use dist_base::{MAX_CLAUSES, MAX_LITERALS};
+use dist_base::{MAX_CLAUSES, MAX_LITERALS, MAX_MOST};
 use dist_future::{Space, clauses_of, models_tell_of_moves};
 use dist_outside::{Limits, What, WorkError};
-use dist_repair::{MAX_MOST, counters_count_moves, with_counter};
+use dist_repair::{counters_count_moves, with_counter};
 use dist_samples::{has, limited};
 use std::alloc::Global;
 use std::process::Abort;

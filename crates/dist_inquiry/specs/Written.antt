@@ -20,12 +20,14 @@ pub record Course : Type 1 where
   pub asks : Asks
   pub Decided : List CertRecord → Type 0
 
--- ---- what may be written so far: nothing, or the first line and lines behind it
+-- ---- what may be written so far
 
+-- nothing, or the first line and lines behind it
 abbrev pub text_so_far : Setting → Option (List CertRecord) → List ℕ
 text_so_far g None = []
 text_so_far g (Some lines) = file_text g.first lines
 
+-- the lines may come one behind another, and ask what may be asked
 abbrev pub MayBeWritten : Setting → Course → Option (List CertRecord) → Type 0
 MayBeWritten g course None = Unit {0}
 MayBeWritten g course (Some lines) = AreWritten g lines × AreAsked course.asks [] lines

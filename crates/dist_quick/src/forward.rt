@@ -1,6 +1,6 @@
 //! What follows from the true literals, and which alternatives are open.
 
-use crate::clauses::{Look, clause_of, look_at};
+use crate::clauses::{Look, look_at};
 use crate::open::Open;
 use crate::trail::Trail;
 use dist_clause::Lit;
@@ -122,12 +122,13 @@ impl State {
     /// Enters the open clauses that came; answers the number of one that is false.
     fn look_at_new(&mut self, log: &Log) -> Result<Option<u32>, AllocError> {
         for _ in 0..self.open.len() {
-            let Some(number) = self.open.waiting() else {
+            let Some(place) = self.open.waiting() else {
                 break;
             };
-            self.open.enter(clause_of(log, number))?;
-            if self.look_once_more(log, number)? {
-                return Ok(Some(number));
+            self.open.enter(log)?;
+            let conflict = self.look_at_open(log, place)?;
+            if conflict.is_some() {
+                return Ok(conflict);
             }
         }
         Ok(None)
@@ -159,9 +160,21 @@ impl State {
                 break;
             };
             place = entry.next;
-            if self.look_once_more(log, entry.number)? {
-                return Ok(Some(entry.number));
+            let conflict = self.look_at_open(log, entry.place)?;
+            if conflict.is_some() {
+                return Ok(conflict);
             }
+        }
+        Ok(None)
+    }
+
+    /// Looks at the open clause at a place; answers its number if it is false.
+    fn look_at_open(&mut self, log: &Log, place: usize) -> Result<Option<u32>, AllocError> {
+        let number = self.open.number(place).unwrap_or(0);
+        match self.open.look(log, &self.trail, place) {
+            Look::Conflict => return Ok(Some(number)),
+            Look::Unit(literal) => self.trail.set(literal, number)?,
+            Look::Open | Look::Rests => {}
         }
         Ok(None)
     }
@@ -217,7 +230,7 @@ impl State {
         Ok(None)
     }
 
-    /// Looks at a clause that is open already, or is not to be; answers whether it is false.
+    /// Looks at a clause that is not to be open; answers whether it is false.
     fn look_once_more(&mut self, log: &Log, number: u32) -> Result<bool, AllocError> {
         match look_at(log, &self.trail, number) {
             Look::Conflict => return Ok(true),

@@ -1,24 +1,35 @@
 //! Clauses with open alternatives, and which of them a variable that becomes false concerns.
 
+use crate::clauses::{Look, clause_of};
+use crate::trail::{Trail, Truth};
 use dist_clause::Lit;
+use dist_derive::Log;
 use std::alloc::{AllocError, Global};
+
+/// An open clause, and the places of two of its literals. While neither of them is false, nothing follows from it.
+#[derive(Clone, Copy, Debug)]
+struct OpenClause {
+    number: u32,
+    first: usize,
+    second: usize,
+}
 
 /// That a variable is an alternative of an open clause.
 #[derive(Clone, Copy, Debug)]
 pub(crate) struct Use {
-    pub(crate) number: u32,
     /// The place of the clause among the open ones.
-    place: usize,
+    pub(crate) place: usize,
     variable: u32,
     /// The place of the use before it of the same variable, from 1; 0: there is none.
     pub(crate) next: u32,
 }
 
-/// Open clauses by their numbers, in the order in which they came. Those up to a place are entered: their variables lead to
-/// them. A use is taken back with its clause, so what a clause costs is its length.
+/// Open clauses, in the order in which they came. Those up to a place are entered: their variables lead to them. A use is taken
+/// back with its clause, so what a clause costs is its length. The two literals of a clause that are looked at go round in it, so
+/// that all looks at it on one way down cost its length too.
 #[derive(Debug, Drop)]
 pub(crate) struct Open {
-    numbers: Vec<u32>,
+    clauses: Vec<OpenClause>,
     entered: usize,
     uses: Vec<Use>,
     /// For each variable the place of its latest use, from 1; 0: there is none.
@@ -29,7 +40,7 @@ impl Open {
     pub(crate) fn new(alloc: Global, variables: u32) -> Result<Open, AllocError> {
         let latest = vec![in alloc; 0u32; variables as usize + 1]?;
         Ok(Open {
-            numbers: Vec::new(alloc),
+            clauses: Vec::new(alloc),
             entered: 0,
             uses: Vec::new(alloc),
             latest,
@@ -38,41 +49,63 @@ impl Open {
 
     /// How many open clauses there are.
     pub(crate) fn len(&self) -> usize {
-        self.numbers.len()
+        self.clauses.len()
     }
 
     /// The number of an open clause, by its place.
     pub(crate) fn number(&self, place: usize) -> Option<u32> {
-        self.numbers.get(place).copied()
+        self.clauses.get(place).map(|clause| clause.number)
     }
 
     /// Adds a clause as the last one.
     pub(crate) fn push(&mut self, number: u32) -> Result<(), AllocError> {
-        self.numbers.push(number)?;
+        self.clauses.push(OpenClause {
+            number,
+            first: 0,
+            second: 1,
+        })?;
         Ok(())
     }
 
-    /// The first clause that is not entered.
-    pub(crate) fn waiting(&self) -> Option<u32> {
-        self.number(self.entered)
+    /// The place of the first clause that is not entered.
+    pub(crate) fn waiting(&self) -> Option<usize> {
+        if self.entered < self.clauses.len() {
+            Some(self.entered)
+        } else {
+            None
+        }
+    }
+
+    /// What the clause at a place asks for. That it is still open is told as that it rests.
+    pub(crate) fn look(&mut self, log: &Log, trail: &Trail, place: usize) -> Look {
+        let Some(kept) = self.clauses.get(place).copied() else {
+            return Look::Rests;
+        };
+        let clause = clause_of(log, kept.number);
+        let first = standing(clause, trail, kept.first, kept.second);
+        let second = standing(clause, trail, kept.second, first);
+        if let Some(open) = self.clauses.get_mut(place) {
+            open.first = first;
+            open.second = second;
+        }
+        asked_by(clause, trail, first, second)
     }
 
     /// Enters the first clause that is not entered.
-    pub(crate) fn enter(&mut self, clause: &[Lit]) -> Result<(), AllocError> {
-        let number = self.waiting().unwrap_or(0);
-        for literal in clause {
+    pub(crate) fn enter(&mut self, log: &Log) -> Result<(), AllocError> {
+        let number = self.number(self.entered).unwrap_or(0);
+        for literal in clause_of(log, number) {
             if literal.positive() {
-                self.add_use(number, literal.variable())?;
+                self.add_use(literal.variable())?;
             }
         }
         self.entered = self.entered.saturating_add(1);
         Ok(())
     }
 
-    fn add_use(&mut self, number: u32, variable: u32) -> Result<(), AllocError> {
+    fn add_use(&mut self, variable: u32) -> Result<(), AllocError> {
         let next = self.latest(variable);
         self.uses.push(Use {
-            number,
             place: self.entered,
             variable,
             next,
@@ -103,7 +136,7 @@ impl Open {
 
     /// Leaves so many clauses.
     pub(crate) fn truncate(&mut self, len: usize) {
-        self.numbers.truncate(len);
+        self.clauses.truncate(len);
         for _ in 0..self.uses.len() {
             match self.uses.last().copied() {
                 Some(last) if last.place >= len => {
@@ -114,5 +147,52 @@ impl Open {
             }
         }
         self.entered = self.entered.min(len);
+    }
+}
+
+/// Whether the literal at a place is false.
+fn is_false(clause: &[Lit], trail: &Trail, place: usize) -> bool {
+    clause
+        .get(place)
+        .is_none_or(|literal| trail.truth(*literal) == Truth::False)
+}
+
+/// A place of a literal that is not false and is not the other one: this place, or the next such one, round in the clause; this one
+/// where there is none.
+fn standing(clause: &[Lit], trail: &Trail, place: usize, other: usize) -> usize {
+    if !is_false(clause, trail, place) {
+        return place;
+    }
+    for next in place..clause.len() {
+        if next != other && !is_false(clause, trail, next) {
+            return next;
+        }
+    }
+    for next in 0..place {
+        if next != other && !is_false(clause, trail, next) {
+            return next;
+        }
+    }
+    place
+}
+
+/// What a clause asks for of which no literal but perhaps those at two places is true or unset, or both of these are.
+fn asked_by(clause: &[Lit], trail: &Trail, first: usize, second: usize) -> Look {
+    match (
+        is_false(clause, trail, first),
+        is_false(clause, trail, second),
+    ) {
+        (true, true) => Look::Conflict,
+        (false, true) => unit_at(clause, trail, first),
+        (true, false) => unit_at(clause, trail, second),
+        (false, false) => Look::Rests,
+    }
+}
+
+/// The literal at a place is the last one that is not false.
+fn unit_at(clause: &[Lit], trail: &Trail, place: usize) -> Look {
+    match clause.get(place) {
+        Some(literal) if trail.truth(*literal) == Truth::Unset => Look::Unit(*literal),
+        _ => Look::Rests,
     }
 }

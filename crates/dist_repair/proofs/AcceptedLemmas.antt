@@ -40,7 +40,7 @@ use Rattle.dist_repair.specs.Counters.{CountedModelsTell, ModelsTellMoves, count
 use Rattle.dist_repair.specs.Means.{Says}
 use Rattle.dist_repair.specs.RepairFiles.{AreCountedInputs, Fits, IsDecided, asked_by, most_of, number_at, repair_files}
 use Rattle.dist_repair.specs.Verdicts.{AcceptedSays, IsHeaderOf, IsOver, is_undecided}
-use Rattle.dist_repair.specs.declared.TheConstants.{MAX_MOST}
+use Rattle.dist_base.specs.declared.TheConstants.{MAX_MOST}
 use Rattle.dist_repair.specs.declared.repair.Repair.{Repair}
 use Rattle.dist_repair.specs.declared.verdict.RepairHeader.{RepairHeader}
 use Rattle.dist_repair.proofs.OverLemmas.{space-over}

@@ -25,7 +25,7 @@ use Rattle.dist_repair.specs.Counters.{Counter, IsCountedSet, PassesCounted, cou
 use Rattle.dist_repair.specs.InputsPrivate.{AreInputsWithin, inputs_of}
 use Rattle.dist_repair.specs.NotesPrivate.{AreWordsOf, WordsView}
 use Rattle.dist_repair.specs.RepairFiles.{Fits, PassesWith, asked_by, most_of, number_at, repair_files}
-use Rattle.dist_repair.specs.declared.TheConstants.{MAX_MOST}
+use Rattle.dist_base.specs.declared.TheConstants.{MAX_MOST}
 use Rattle.dist_repair.proofs.StopLemmas.{stops-at}
 
 -- ---- too many clauses or literals

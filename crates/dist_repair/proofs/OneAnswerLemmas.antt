@@ -23,7 +23,7 @@ use Rattle.dist_repair.specs.Counters.{PassesCounted, counted_clauses, counted_v
 use Rattle.dist_repair.specs.InputsPrivate.{AreInputsWithin, inputs_of}
 use Rattle.dist_repair.specs.RepairFiles.{AreCountedInputs, AreWithin, IsBasisOf, PassesWith, asked_by, most_of, repair_files}
 use Rattle.dist_repair.specs.Verdicts.{IsHeaderOf, IsOfText, RepairAnswers}
-use Rattle.dist_repair.specs.declared.TheConstants.{MAX_MOST}
+use Rattle.dist_base.specs.declared.TheConstants.{MAX_MOST}
 use Rattle.dist_repair.specs.declared.repair.Repair.{Repair}
 use Rattle.dist_repair.specs.declared.verdict.RepairHeader.{RepairHeader}
 use Rattle.dist_repair.specs.declared.verdict.RepairVerdict.{RepairVerdict}

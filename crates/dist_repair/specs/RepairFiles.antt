@@ -10,7 +10,7 @@ use Rattle.dist_findings.specs.AnswerFiles.{AnswerFile, Inputs}
 use Rattle.dist_findings.specs.declared.finding.Finding.{Finding}
 use Rattle.dist_repair.specs.Answered.{Answers, Asked}
 use Rattle.dist_repair.specs.Counters.{PassesCounted, counted_clauses, counted_variables, counter_of}
-use Rattle.dist_repair.specs.declared.TheConstants.{MAX_MOST}
+use Rattle.dist_base.specs.declared.TheConstants.{MAX_MOST}
 use Rattle.dist_repair.specs.declared.repair.Repair.{Repair}
 
 -- The numbers of a first line, in order: the limit, the numbers of packages, of variables and of clauses, the package,

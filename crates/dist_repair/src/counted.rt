@@ -7,12 +7,12 @@ ghost use Rattle.dist_outside.specs.declared.trouble.What.{What};
 ghost use Rattle.dist_outside.specs.declared.trouble.WorkError.TheVariants.{NoMemory, TooLarge};
 ghost use Rattle.dist_space.specs.Space.{cluster_classes, variable_of};
 ghost use Rattle.dist_space.specs.declared.meaning.Meaning.TheVariants.{At};
-ghost use Rattle.dist_repair.specs.declared.TheConstants.{MAX_MOST};
+ghost use Rattle.dist_base.specs.declared.TheConstants.{MAX_MOST};
 ghost use Rattle.dist_repair.specs.CountedPrivate.{HasMore, IsStoppedIn, StopsWith};
 ghost use Rattle.dist_repair.specs.Counters.{IsCountedSet, PassesCounted, class_clauses, count_clauses, counted_clauses, counted_variables, counter_clauses, counter_of, each_below, more, moved, no, yes};
 
-use crate::MAX_MOST;
 use crate::counter::Counter;
+use dist_base::MAX_MOST;
 use dist_clause::{ClauseSet, Lit, PushError};
 use dist_outside::{Limits, What, WorkError};
 use dist_space::{Meaning, Space};

@@ -7,11 +7,11 @@ ghost use Rattle.dist_outside.specs.declared.trouble.WorkError.TheVariants.{NoMe
 ghost use Rattle.dist_subject.specs.Limited.{AreStated};
 ghost use Rattle.dist_repair.specs.InputsPrivate.{AreInputsWithin, inputs_of};
 ghost use Rattle.dist_repair.specs.RepairFiles.{Fits, PassesWith, most_of};
-ghost use Rattle.dist_repair.specs.declared.TheConstants.{MAX_MOST};
+ghost use Rattle.dist_base.specs.declared.TheConstants.{MAX_MOST};
 
-use crate::MAX_MOST;
 use crate::counted::with_counter;
 use crate::counter::Counter;
+use dist_base::MAX_MOST;
 use dist_clause::ClauseSet;
 use dist_outside::{Limits, What, WorkError};
 use dist_space::Space;

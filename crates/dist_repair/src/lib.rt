@@ -27,6 +27,3 @@ pub use repair::Repair;
 pub use repairing::{Repairing, words_of};
 pub use verdict::{RepairHeader, RepairVerdict};
 pub use words::Words;
-
-/// The most clusters that a counter counts to.
-pub const MAX_MOST: u32 = 64;

@@ -6,7 +6,7 @@ ghost use Rattle.dist_space.specs.Space.{SpaceView};
 ghost use Rattle.dist_findings.specs.Findings.{IsFormed};
 ghost use Rattle.dist_findings.specs.declared.finding.Finding.{Finding};
 ghost use Rattle.dist_repair.specs.Answered.{Asked};
-ghost use Rattle.dist_repair.specs.declared.TheConstants.{MAX_MOST};
+ghost use Rattle.dist_base.specs.declared.TheConstants.{MAX_MOST};
 ghost use Rattle.dist_repair.specs.NotesPrivate.{AreNotesOf, AreWordsOf, NotesLeft, NotesRefuted, answer_of, has_answer, is_at_end, is_fewer, noted_installed, raised};
 
 use crate::moved::{moved_in, values_of};
@@ -38,7 +38,7 @@ pub struct Notes {
 impl Model for Notes {
     ghost use Rattle.std.specs.Prelude.{◌≡◌, ◌+◌, ◌≤◌, length};
     ghost use Rattle.dist_repair.specs.NotesPrivate.{NotesView};
-    ghost use Rattle.dist_repair.specs.declared.TheConstants.{MAX_MOST};
+    ghost use Rattle.dist_base.specs.declared.TheConstants.{MAX_MOST};
 
     ghost Value = { NotesView };
 

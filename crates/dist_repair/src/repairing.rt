@@ -3,12 +3,12 @@ ghost use Rattle.std.specs.Prelude.{◌≤◌};
 ghost use Rattle.dist_findings.specs.Start.{HasRightNumbers};
 ghost use Rattle.dist_repair.specs.NotesPrivate.{AreWordsOf};
 ghost use Rattle.dist_repair.specs.RepairFiles.{asked_by, repair_files};
-ghost use Rattle.dist_repair.specs.declared.TheConstants.{MAX_MOST};
+ghost use Rattle.dist_base.specs.declared.TheConstants.{MAX_MOST};
 
-use crate::MAX_MOST;
 use crate::inputs::{counted_inputs, fits, number_at};
 use crate::notes::Notes;
 use crate::words::Words;
+use dist_base::MAX_MOST;
 use dist_clause::ClauseSet;
 use dist_findings::{Answering, Finding};
 use dist_outside::{Limits, WorkError};

@@ -4,7 +4,7 @@ ghost use Rattle.dist_cert.specs.ClaimRules.{no, yes};
 ghost use Rattle.dist_space.specs.Space.{SpaceView};
 ghost use Rattle.dist_repair.specs.Answered.{Asked, AsksAlone, AsksAt};
 ghost use Rattle.dist_repair.specs.NotesPrivate.{AreWordsOf, IsAlone, IsAt, IsAtNone};
-ghost use Rattle.dist_repair.specs.declared.TheConstants.{MAX_MOST};
+ghost use Rattle.dist_base.specs.declared.TheConstants.{MAX_MOST};
 
 use std::marker::Model;
 
@@ -20,7 +20,7 @@ pub struct Words {
 
 impl Model for Words {
     ghost use Rattle.std.specs.Prelude.{◌+◌, ◌<◌, ◌≤◌, ◌^◌};
-    ghost use Rattle.dist_repair.specs.declared.TheConstants.{MAX_MOST};
+    ghost use Rattle.dist_base.specs.declared.TheConstants.{MAX_MOST};
     ghost use Rattle.dist_repair.specs.NotesPrivate.{WordsView};
 
     ghost Value = { WordsView };

@@ -26,7 +26,7 @@ use Rattle.dist_repair.specs.InputsPrivate.{AreInputsWithin, inputs_of}
 use Rattle.dist_repair.specs.NotesPrivate.{AreNotesOf, AreWordsOf, NotesView, WordsView, answer_of}
 use Rattle.dist_repair.specs.RepairFiles.{Fits, IsBasisOf, PassesWith, asked_by, repair_files}
 use Rattle.dist_repair.specs.Verdicts.{AcceptedSays, IsHeaderOf}
-use Rattle.dist_repair.specs.declared.TheConstants.{MAX_MOST}
+use Rattle.dist_base.specs.declared.TheConstants.{MAX_MOST}
 use Rattle.dist_repair.specs.declared.repair.Repair.{Repair}
 use Rattle.dist_repair.specs.declared.verdict.RepairHeader.{RepairHeader}
 use Rattle.dist_space.specs.Space.{IsSpace, SpaceView}

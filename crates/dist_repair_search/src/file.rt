@@ -10,7 +10,7 @@ ghost use Rattle.dist_repair.specs.NotesPrivate.{AreNotesOf, AreWordsOf, WordsVi
 ghost use Rattle.dist_repair.specs.RepairFiles.{asked_by, repair_files};
 ghost use Rattle.dist_repair_search.specs.SearchPrivate.{AreOver, RunsSearch, TellsAnswer, WritesFile};
 ghost use Rattle.dist_repair.specs.Verdicts.{AcceptedSays};
-ghost use Rattle.dist_repair.specs.declared.TheConstants.{MAX_MOST};
+ghost use Rattle.dist_base.specs.declared.TheConstants.{MAX_MOST};
 ghost use Rattle.dist_subject.specs.Limited.{AreStated};
 ghost use Rattle.dist_repair_search.specs.SearchAnswers.{SearchAnswers, TellsFirst, first_numbers, header_with};
 

@@ -20,7 +20,7 @@ use Rattle.clap.proofs.WalkLemmas.{one_text-rows}
 use Rattle.dist_base.specs.declared.TheConstants.{MAX_LIMIT, MAX_SIZE}
 use Rattle.dist_words.specs.Clap.{Options as Chosen, option_number, options_of, simple_command, taken_of}
 use Rattle.dist_words.specs.Lines.{IsLimit, IsSize}
-use Rattle.dist_words.specs.declared.TheConstants.{MAX_MOST}
+use Rattle.dist_base.specs.declared.TheConstants.{MAX_MOST}
 use Rattle.dist_words.specs.SimpleCommandPrivate.{IsMatched}
 use Rattle.dist_words.specs.Table.{accepted, in_table}
 use Rattle.dist_words.proofs.Chain.{alone, read_passes}

@@ -9,7 +9,7 @@ use Rattle.clap.specs.declared.builder.arg.Arg.{Arg}
 use Rattle.clap.specs.declared.builder.command.Command.{Command}
 use Rattle.dist_base.specs.declared.TheConstants.{MAX_LIMIT, MAX_SIZE}
 use Rattle.dist_words.specs.Clap.{command_rule, files_rule, essential_rule, number_option, package_rule}
-use Rattle.dist_words.specs.declared.TheConstants.{MAX_MOST}
+use Rattle.dist_base.specs.declared.TheConstants.{MAX_MOST}
 use Rattle.dist_words.specs.SimpleCommandPrivate.{IsArg, IsSimpleCommand, IsStart}
 
 -- ---- one argument

@@ -8,7 +8,7 @@ use Rattle.clap.specs.Walk.{Row, Rule, Text, all_of, first_of, one_of}
 use Rattle.clap.specs.declared.builder.action.ArgAction.TheVariants.{Set, Append, SetTrue}
 use Rattle.clap.specs.declared.builder.value_parser.ValueParser.TheVariants as values
 use Rattle.dist_base.specs.declared.TheConstants.{MAX_LIMIT, MAX_SIZE}
-use Rattle.dist_words.specs.declared.TheConstants.{MAX_MOST}
+use Rattle.dist_base.specs.declared.TheConstants.{MAX_MOST}
 
 -- an option that takes a number within bounds
 abbrev pub number_option : Text → (least greatest : ℕ) → Rule

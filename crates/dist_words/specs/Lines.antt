@@ -7,7 +7,7 @@ use Rattle.dist_words.specs.CommandLine.{CommandLine, Health, Classes, Sweep, Ch
 use Rattle.dist_words.specs.CommandLine.{CheckRepair, Repair, Try, Steps, Follow}
 use Rattle.dist_words.specs.declared.command.Command.{Command}
 use Rattle.dist_words.specs.declared.command.Command.TheVariants as command
-use Rattle.dist_words.specs.declared.TheConstants.{MAX_MOST}
+use Rattle.dist_base.specs.declared.TheConstants.{MAX_MOST}
 use Rattle.dist_words.specs.declared.taken.Options.{Options}
 
 -- a command

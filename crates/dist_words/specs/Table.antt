@@ -89,6 +89,7 @@ explained files options = where_allowed (has_no_seed options && (not options.ess
     (option_and_then (λ named. with_two (λ packages cert.
     Explain packages cert named (unwrap_or options.limit DEFAULT_LIMIT)) files) options.named)
 
+-- and one that counts clusters, up to 8 where no option says it
 abbrev pub repaired : List Text → Options → Option CommandLine
 repaired files options = where_allowed (has_no_seed options && not options.essential)
     (option_and_then (λ named. with_two (λ packages cert. Repair packages cert named

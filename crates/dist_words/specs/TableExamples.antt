@@ -1,6 +1,6 @@
 -- Worked examples of the table.
 use Rattle.std.specs.Prelude.{◌≡◌, true, false, [], ◌∷◌, Some, None, codes, refl}
-use Rattle.dist_words.specs.CommandLine.{CheckExplain, Explain, Follow, Repair, Steps, Sweep, Try}
+use Rattle.dist_words.specs.CommandLine.{CheckExplain, CheckRepair, Explain, Follow, Repair, Steps, Sweep, Try}
 use Rattle.dist_cert.specs.declared.records.CertKind.TheVariants.{Strong, Challenged}
 use Rattle.dist_words.specs.Clap.{Options}
 use Rattle.dist_words.specs.Table.{in_table}
@@ -29,6 +29,11 @@ check_takes_no_limit = refl
 check_explain_takes_two_files : in_table (codes "check-explain") (codes "f" ∷ codes "g" ∷ [])
     no_option ≡ Some (CheckExplain (codes "f") (codes "g"))
 check_explain_takes_two_files = refl
+
+-- `check-repair f g`
+check_repair_takes_two_files : in_table (codes "check-repair") (codes "f" ∷ codes "g" ∷ [])
+    no_option ≡ Some (CheckRepair (codes "f") (codes "g"))
+check_repair_takes_two_files = refl
 
 -- `explain f g --package a=1`
 explain_names_a_package : in_table (codes "explain") (codes "f" ∷ codes "g" ∷ [])

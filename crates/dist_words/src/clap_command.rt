@@ -7,15 +7,14 @@ ghost use Rattle.clap.specs.Walk.{rows_of};
 ghost use Rattle.clap.specs.declared.builder.value_parser.ValueParser.TheVariants as values;
 ghost use Rattle.dist_words.specs.Clap.{command_rule, files_rule, essential_rule, number_option, package_rule, simple_command};
 ghost use Rattle.dist_words.specs.SimpleCommandPrivate.{IsArg, IsMatched, IsSimpleCommand, IsStart};
-ghost use Rattle.dist_words.specs.declared.TheConstants.{MAX_MOST};
+ghost use Rattle.dist_base.specs.declared.TheConstants.{MAX_MOST};
 ghost use Rattle.dist_words.specs.declared.error.WordsError.TheVariants.{BadWords};
 
-use crate::MAX_MOST;
 use crate::error::WordsError;
 use clap::builder::ValueParser;
 use clap::error::ErrorKind;
 use clap::{Arg, ArgAction, ArgMatches, Command, value_parser};
-use dist_base::{MAX_LIMIT, MAX_SIZE};
+use dist_base::{MAX_LIMIT, MAX_MOST, MAX_SIZE};
 use std::alloc::{AllocError, Global};
 
 /// An option that takes a number within the bounds of its parser.

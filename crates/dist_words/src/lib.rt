@@ -16,8 +16,5 @@ pub use command::{
 pub use error::WordsError;
 pub use table::command_of;
 
-/// The most clusters that `--most` may count to.
-pub const MAX_MOST: u32 = 64;
-
 /// To how many clusters is counted where no option says it.
 pub const DEFAULT_MOST: u32 = 8;

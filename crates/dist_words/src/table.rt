@@ -7,7 +7,7 @@ ghost use Rattle.dist_words.specs.SimpleCommandPrivate.{IsMatched};
 ghost use Rattle.dist_words.specs.CommandLine.{Health, Classes, Check, CheckExplain, CheckRepair, Follow, Steps};
 ghost use Rattle.dist_words.specs.Lines.{HasLimit, IsLimit, IsSize, line_of, names, seen};
 ghost use Rattle.dist_words.specs.Table.{IsBadWords, accepted, command_of, explained, in_table, has_no_limit, has_no_option, has_no_seed, names_none, repaired, seeded, swept, where_allowed, with_none, with_one, with_three, with_two};
-ghost use Rattle.dist_words.specs.declared.TheConstants.{MAX_MOST};
+ghost use Rattle.dist_base.specs.declared.TheConstants.{MAX_MOST};
 ghost use Rattle.dist_words.specs.declared.error.WordsError.TheVariants.{BadWords};
 
 use crate::DEFAULT_MOST;

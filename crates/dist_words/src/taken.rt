@@ -5,7 +5,7 @@ ghost use Rattle.clap.specs.Walk.{rows_of};
 ghost use Rattle.dist_words.specs.Clap.{options_of};
 ghost use Rattle.dist_words.specs.Lines.{IsLimit, IsSize, seen};
 ghost use Rattle.dist_words.specs.SimpleCommandPrivate.{IsMatched};
-ghost use Rattle.dist_words.specs.declared.TheConstants.{MAX_MOST};
+ghost use Rattle.dist_base.specs.declared.TheConstants.{MAX_MOST};
 
 use clap::ArgMatches;
 

@@ -4,7 +4,7 @@ use Rattle.clap.proofs.WalkLemmas.{first_value-rows}
 use Rattle.std.specs.Str.Parse.{ParsesUnsigned, ExplainsUnsignedError, HasUnsignedDigitsIfOk}
 use Rattle.dist_base.specs.declared.TheConstants.{MAX_LIMIT, MAX_SIZE}
 use Rattle.dist_words.specs.Clap.{number_option, essential_rule}
-use Rattle.dist_words.specs.declared.TheConstants.{MAX_MOST}
+use Rattle.dist_base.specs.declared.TheConstants.{MAX_MOST}
 use Rattle.dist_words.proofs.Chain.{alone, no_rule}
 use Rattle.dist_words.proofs.Readings.{IsAt, number_read, flag_read, limit_of, most_of, size_of}
 use Rattle.dist_words.proofs.taken.options_of.Goals as goal
