@@ -30,7 +30,7 @@ use std::alloc::{AllocError, Global};
 use std::marker::Model;
 
 /// What is kept of the lines before a line.
-#[derive(Debug, Drop)]
+#[derive(Drop)]
 pub struct State {
     limit: u32,
     packages: u32,

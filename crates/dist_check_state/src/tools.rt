@@ -19,7 +19,7 @@ use std::alloc::{AllocError, Global};
 use std::marker::Model;
 
 /// Room for the work of one test at a time.
-#[derive(Debug, Drop)]
+#[derive(Drop)]
 pub struct Tools {
     scratch: Scratch,
     clause: Vec<Lit>,

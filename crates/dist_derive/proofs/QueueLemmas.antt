@@ -60,6 +60,11 @@ module _ (clauses : List (List Literal)) (last : ℕ) (index : OccurrenceLists) 
         (Waits-next now.literals (clause_at clauses number) done l within is (h.waiting number from covered to));
   }
 
+  pub takes_all : (start now : LiteralList) (done : ℕ) → TakesSoFar clauses last index start now done → length now.literals ≤ done
+      → AllWait index clauses last now.literals (length now.literals)
+  takes_all start now done h end = λ number from covered to.
+      inl (Waits-end now.literals (clause_at clauses number) done end (h.waiting number from covered to))
+
   -- at the end of a walk in which nothing grew, no clause is false or unit
   pub settled_end : (first : ℕ) (mid end : LiteralList) → first ≡ index.covered → Sweeps (take last clauses) first mid end Settled
       → AllWait index clauses last mid.literals (length mid.literals) → last ≤ length clauses → AllOpen end.literals (take last clauses)

@@ -206,6 +206,12 @@ module _ (clauses : List (List Literal)) (inputs : ℕ) (index : OccurrenceLists
         (WaitsIn-next now.members (clause_at clauses number) done within (h.waiting number from covered to));
   }
 
+  pub members_all : (start now : VariableList) (done : ℕ) → MembersSoFar clauses inputs index start now done → length now.members ≤ done
+      → AllWaitIn index clauses inputs now.members (length now.members)
+  members_all start now done h end = λ number from covered to.
+      WaitsIn-closed now.members (clause_at clauses number) (length now.members)
+      (WaitsIn-end now.members (clause_at clauses number) done end (h.waiting number from covered to))
+
   -- at the end of a walk in which nothing grew, all clauses are closed
   pub closed_end : (first : ℕ) (mid end : VariableList) → first ≡ index.covered → end ≡ mid
       → ((number : ℕ) → first < number → number ≤ inputs → IsClosedAt end.members (clause_at clauses number))

@@ -1,12 +1,13 @@
 -- Lists of clauses that are found by two literals.
-use Rattle.std.proofs.Common.{◌≡◌, ◌≢◌, ℕ, ◌⊎◌, ⊎_elim, inl, inr, ◌+◌, ◌-◌, ◌<◌, ◌≤◌, false, List, length, get_or, set, ap, sym, subst}
+use Rattle.std.proofs.Common.{◌≡◌, ◌≢◌, ℕ, ◌⊎◌, ⊎_elim, inl, inr, ◌+◌, ◌-◌, ◌<◌, ◌≤◌, false, List, [], ◌∷◌, ◌++◌, length, get_or, set, refl, ap, sym, subst}
 use Rattle.std.proofs.Common.{◌∙◌, arith, length-set, length-take}
 use Rattle.std.specs.List.{Contains, swap_remove}
 use Rattle.std.proofs.lemmas.Bool.{cases_eq}
 use Rattle.std.proofs.lemmas.List.{get_or_default, get_or-take, get_or-set_same, get_or-set_other}
+use Rattle.std.proofs.lemmas.List.Elements.{Contains-push, Contains-append_left}
 use Rattle.dist_clause.specs.Formula.{Literal, literal}
 use Rattle.dist_clause.specs.ClauseList.{clause_at}
-use Rattle.dist_derive.specs.WatchesPrivate.{WatchLists, list_of, pair_in, pair_of, IsPairKept, HasNot, Pends, Lists, IsWatched, AreWatchesOf}
+use Rattle.dist_derive.specs.WatchesPrivate.{WatchLists, list_of, pair_in, pair_of, IsPairKept, HasOther, HasNot, Pends, Lists, IsWatched, AreWatchesOf}
 use Rattle.dist_derive.proofs.LiteralLemmas.{same_or_not}
 
 -- ---- pairs
@@ -39,6 +40,32 @@ pub watches_kept : (u v : WatchLists) (clauses : List (List Literal)) → v.pair
 watches_kept u v clauses pairs kept h number from apart =
     let same : pair_of v number ≡ pair_of u number = ap (λ ps. pair_in ps number) pairs in
     watched_kept u v (clause_at clauses number) number same kept (h number from (apart_kept (pair_of u number) (pair_of v number) same apart))
+
+-- a number has come into a literal's list as the last one, or stands there already
+pub listed_more : (u v : WatchLists) (l : Literal) (number : ℕ) → v.pairs ≡ u.pairs → ((m : Literal) → m ≢ l → list_of v m ≡ list_of u m)
+    → list_of v l ≡ list_of u l ++ number ∷ [] → Lists u v l number
+listed_more u v l number pairs others list = record {
+  same_pairs = pairs;
+  listed = λ clauses h. subst (λ ns. Contains ns number) (sym list) (Contains-push (list_of u l) number);
+  kept = λ m n h. elim (same_or_not m l) [
+    | inl same ↦
+        let here = subst (λ x. Contains (list_of u x) n) same h in
+        let more = subst (λ ns. Contains ns n) (sym list) (Contains-append_left (list_of u l) (number ∷ []) n here) in
+        subst (λ x. Contains (list_of v x) n) (sym same) more
+    | inr other ↦ subst (λ ns. Contains ns n) (sym (others m other)) h
+  ];
+  other_lists = others;
+}
+
+pub listed_before : (u : WatchLists) (l other : Literal) (number : ℕ) → 1 ≤ number → HasOther (pair_of u number) l other → Lists u u l number
+listed_before u l other number from h = record {
+  same_pairs = refl;
+  listed = λ clauses w. ⊎_elim
+      (λ e. subst (λ x. Contains (list_of u x) number) e.0 (w number from h.0).first_listed)
+      (λ e. subst (λ x. Contains (list_of u x) number) e.0 (w number from h.0).second_listed) h.1;
+  kept = λ m n k. k;
+  other_lists = λ m apart. refl;
+}
 
 -- a clause is found by two literals from now on: it comes into both lists, and then its pair is set
 module _ (u a b v : WatchLists) (one other : Literal) (number : ℕ) (from : 1 ≤ number) (first : Lists u a one number) (second : Lists a b other number)

@@ -7,7 +7,7 @@ use std::alloc::{AllocError, Global};
 use std::marker::Model;
 
 /// Some of the clauses that were false in a call, by their numbers. A number without room is not remembered.
-#[derive(Debug, Drop)]
+#[derive(Drop)]
 pub(crate) struct Conflicts {
     numbers: VariableSet,
     /// The largest number that can be remembered.

@@ -14,7 +14,7 @@ use std::marker::Model;
 
 /// For each clause the variable of its rarest negative literal, or 0 where it has none, and its number, in the order of the
 /// variables.
-#[derive(Debug, Drop)]
+#[derive(Drop)]
 pub(crate) struct Denials {
     pairs: Vec<(u32, u32)>,
     /// For each variable a guess at the place of its first pair.

@@ -66,22 +66,22 @@ impl Log {
         if conflicts.has(hint) {
             return Outcome::Conflict;
         }
-        let outcome = self.take_hint(literals, hint);
+        let outcome = self.take_clause(literals, hint);
         if let Outcome::Conflict = outcome {
             conflicts.remember(hint);
         }
         outcome
     }
 
-    /// What the hinted clause is; if it is unit, its literal becomes true.
-    pub(crate) fn take_hint(&self, literals: &mut TrueLiterals, hint: u32) -> Outcome
+    /// What the clause of a number is; if it is unit, its literal becomes true.
+    pub(crate) fn take_clause(&self, literals: &mut TrueLiterals, number: u32) -> Outcome
         requires { literals.old.variables ≡ self.now.variables }
-        ensures { TakesHint self.now.clauses literals.old literals.new hint result }
+        ensures { TakesHint self.now.clauses literals.old literals.new number result }
     {
-        if hint == 0 || hint > self.len() {
+        if number == 0 || number > self.len() {
             return Outcome::Open;
         }
-        let outcome = literals.outcome(self.clause(hint));
+        let outcome = literals.outcome(self.clause(number));
         if let Outcome::Unit(literal) = outcome {
             literals.make_true(literal);
         }

@@ -13,7 +13,7 @@ use std::alloc::{AllocError, Global};
 use std::marker::Model;
 
 /// Input clauses.
-#[derive(Debug, Drop)]
+#[derive(Drop)]
 pub(crate) struct Inputs {
     clauses: ClauseSet,
     /// Those of the clauses, once these are indexed.

@@ -29,7 +29,7 @@ pub enum AppendError {
 }
 
 /// Input clauses, followed by the lines that were derived from them.
-#[derive(Debug, Drop)]
+#[derive(Drop)]
 pub struct Log {
     pub(crate) inputs: Inputs,
     lines: ClauseSet,

@@ -72,9 +72,16 @@ impl Log {
         ensures same { self.new ≡ self.old }
     {
         let mut watching = self.watching.take(self.alloc);
-        let answer = self.tell_lines(&mut watching, cone, assumptions, last)?;
-        self.watching = watching;
-        Ok(answer)
+        match self.tell_lines(&mut watching, cone, assumptions, last) {
+            Ok(answer) => {
+                self.watching.put(watching);
+                Ok(answer)
+            }
+            Err(error) => {
+                drop(watching);
+                Err(error)
+            }
+        }
     }
 
     /// The same, from what is kept.

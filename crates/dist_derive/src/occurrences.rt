@@ -14,7 +14,7 @@ use std::alloc::{AllocError, Global};
 use std::marker::Model;
 
 /// A clause in a list.
-#[derive(Clone, Copy, Debug)]
+#[derive(Clone, Copy)]
 pub struct Link {
     /// The number of the clause.
     pub number: u32,
@@ -26,7 +26,7 @@ pub struct Link {
 pub(crate) const POSITIVE: u32 = 0;
 
 /// For each code a list of clauses: for a literal's code those in which it stands.
-#[derive(Debug, Drop)]
+#[derive(Drop)]
 pub(crate) struct Occurrences {
     /// For each code the place of its latest link, from 1 on; 0: there is none. Empty until the lists are made.
     heads: Vec<u32>,

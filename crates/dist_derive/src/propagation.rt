@@ -5,7 +5,6 @@
 ghost use Rattle.std.specs.Prelude.{◌≡◌, ◌<◌, ◌≤◌, ◌-◌, ℕ, false, length, take, IsTrue};
 ghost use Rattle.dist_clause.specs.ClauseList.{clause_at};
 ghost use Rattle.dist_derive.specs.TrueLiterals.{HasOutcome};
-ghost use Rattle.dist_derive.specs.HintsPrivate.{TakesHint};
 ghost use Rattle.dist_derive.specs.OccurrencesPrivate.{Lists, IsIndexOf};
 ghost use Rattle.dist_derive.specs.SweepPrivate.{IsRefuted, AllOpen, Waits, AllWait, Propagates, Sweeps};
 
@@ -14,7 +13,7 @@ use crate::occurrences::{Occurrences, code_of};
 use crate::true_literals::{Outcome, TrueLiterals};
 
 /// What a walk over clauses found.
-#[derive(Clone, Copy, Debug)]
+#[derive(Clone, Copy)]
 pub enum Sweep {
     /// A clause with no literal but false ones.
     Conflict,
@@ -163,20 +162,5 @@ impl Log {
             return Sweep::Grown;
         }
         Sweep::Settled
-    }
-
-    /// What the clause of a number is; if it is unit, its literal becomes true.
-    fn take_clause(&self, literals: &mut TrueLiterals, number: u32) -> Outcome
-        requires { literals.old.variables ≡ self.now.variables }
-        ensures { TakesHint self.now.clauses literals.old literals.new number result }
-    {
-        if number == 0 || number > self.len() {
-            return Outcome::Open;
-        }
-        let outcome = literals.outcome(self.clause(number));
-        if let Outcome::Unit(literal) = outcome {
-            literals.make_true(literal);
-        }
-        outcome
     }
 }

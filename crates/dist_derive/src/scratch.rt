@@ -9,7 +9,7 @@ use std::alloc::{AllocError, Global};
 use std::marker::Model;
 
 /// Room for the work of one call at a time, over a number of variables. Each call leaves it as it found it.
-#[derive(Debug, Drop)]
+#[derive(Drop)]
 pub struct Scratch {
     /// No literal is true here between the calls.
     pub(crate) literals: TrueLiterals,
@@ -34,13 +34,25 @@ impl Scratch {
         ensures { IfOk result (λ s. s ≡ variables) }
     {
         let literals = TrueLiterals::new(alloc, variables)?;
-        let cone = VariableSet::new(alloc, variables)?;
-        let conflicts = Conflicts::new(alloc)?;
-        Ok(Scratch {
-            literals,
-            cone,
-            conflicts,
-        })
+        let cone = match VariableSet::new(alloc, variables) {
+            Ok(cone) => cone,
+            Err(error) => {
+                drop(literals);
+                return Err(error);
+            }
+        };
+        match Conflicts::new(alloc) {
+            Ok(conflicts) => Ok(Scratch {
+                literals,
+                cone,
+                conflicts,
+            }),
+            Err(error) => {
+                drop(cone);
+                drop(literals);
+                Err(error)
+            }
+        }
     }
 
     /// Makes room for logs of so many clauses, so that hints that repeat cost little. More clauses are allowed.

@@ -34,9 +34,16 @@ impl Log {
         ensures same { self.new ≡ self.old }
     {
         let mut watching = self.watching.take(self.alloc);
-        let answer = self.tell(&mut watching, assumptions, clause, last)?;
-        self.watching = watching;
-        Ok(answer)
+        match self.tell(&mut watching, assumptions, clause, last) {
+            Ok(answer) => {
+                self.watching.put(watching);
+                Ok(answer)
+            }
+            Err(error) => {
+                drop(watching);
+                Err(error)
+            }
+        }
     }
 
     /// The same, from what is kept.
@@ -68,9 +75,11 @@ impl Log {
         ensures standing { IfOk result (λ _. IsStanding self.now.clauses self.now.variables watching.new) }
         ensures grounded { IfOk result (λ _. watching.new.grounded ≤ last) }
     {
-        if !watching.is_made || watching.grounded > last {
-            *watching = Watching::make(self.alloc, self.variables())?;
+        if watching.is_made && watching.grounded <= last {
+            return Ok(());
         }
+        let made = Watching::make(self.alloc, self.variables())?;
+        watching.put(made);
         Ok(())
     }
 

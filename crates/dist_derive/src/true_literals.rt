@@ -12,7 +12,7 @@ use std::alloc::{AllocError, Global};
 use std::marker::Model;
 
 /// What a literal is under the true ones.
-#[derive(Clone, Copy, Debug)]
+#[derive(Clone, Copy)]
 pub enum Truth {
     True,
     False,
@@ -20,7 +20,7 @@ pub enum Truth {
 }
 
 /// What a clause is under the true literals.
-#[derive(Clone, Copy, Debug)]
+#[derive(Clone, Copy)]
 pub enum Outcome {
     /// All its literals are false.
     Conflict,
@@ -30,7 +30,7 @@ pub enum Outcome {
 }
 
 /// Literals that are true for now, never a literal together with its negation.
-#[derive(Debug, Drop)]
+#[derive(Drop)]
 pub struct TrueLiterals {
     touched: VariableSet,
     /// The value of each touched variable.

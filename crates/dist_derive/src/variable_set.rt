@@ -11,7 +11,7 @@ use std::alloc::{AllocError, Global};
 use std::marker::Model;
 
 /// A set of the variables from 1 to a number, with its members in the order in which they came.
-#[derive(Debug, Drop)]
+#[derive(Drop)]
 pub struct VariableSet {
     marks: Assignment,
     members: Vec<u32>,

@@ -16,7 +16,7 @@ use std::alloc::{AllocError, Global};
 use std::marker::Model;
 
 /// Numbers of clauses.
-#[derive(Debug, Drop)]
+#[derive(Drop)]
 struct Numbers {
     numbers: Vec<u32>,
 }
@@ -62,7 +62,7 @@ impl Numbers {
 }
 
 /// For each literal the clauses that are found by it, and for each clause its two literals.
-#[derive(Debug, Drop)]
+#[derive(Drop)]
 pub(crate) struct Watches {
     /// By the code of the literal. A number may stand in a list though its clause is found by other literals now.
     lists: Vec<Numbers>,

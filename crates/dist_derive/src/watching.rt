@@ -14,7 +14,7 @@ use std::mem;
 /// True literals in the order in which they became true, and watches by which the clauses are found that make more true.
 /// First come those that the clauses give by themselves (the ground), then those that they give under the assumptions of
 /// the last question. A test adds its own behind these and lets them go again.
-#[derive(Debug, Drop)]
+#[derive(Drop)]
 pub(crate) struct Watching {
     /// Else nothing is known of the rest.
     pub(crate) is_made: bool,
@@ -85,6 +85,13 @@ impl Watching {
         ensures none { self.new.is_made ≡ false }
     {
         mem::replace(self, Watching::empty(alloc))
+    }
+
+    /// Puts another one in its place.
+    pub(crate) fn put(&mut self, other: Watching)
+        ensures { self.new ≡ other }
+    {
+        drop(mem::replace(self, other));
     }
 
     /// Whether these are the assumptions.

@@ -19,7 +19,7 @@ use std::alloc::AllocError;
 use std::marker::Model;
 
 /// What is kept of the lines before a line.
-#[derive(Debug, Drop)]
+#[derive(Drop)]
 pub(crate) struct Asking {
     limit: u32,
     log: Log,

@@ -35,7 +35,7 @@ use std::alloc::{AllocError, Global};
 use std::marker::Model;
 
 /// Asks questions and writes their lines.
-#[derive(Debug, Drop)]
+#[derive(Drop)]
 pub struct Inquirer {
     alloc: Global,
     solver: Solver,

@@ -22,7 +22,7 @@ use std::alloc::{AllocError, Global};
 use std::marker::Model;
 
 /// Input clauses with the lines derived from them, and the room in which questions are answered.
-#[derive(Debug, Drop)]
+#[derive(Drop)]
 pub struct Solver {
     entries: Log,
     added: Derived,

@@ -18,7 +18,7 @@ use std::alloc::{AllocError, Global};
 use std::marker::Model;
 
 /// The room in which guesses are tested.
-#[derive(Debug, Drop)]
+#[derive(Drop)]
 pub(crate) struct Tests {
     scratch: Scratch,
     variables: VariableSet,

@@ -13,7 +13,7 @@ use std::alloc::{AllocError, Global};
 use std::marker::Model;
 
 /// True literals: those of a start, and behind them those that propagation gave.
-#[derive(Debug, Drop)]
+#[derive(Drop)]
 pub(crate) struct Trail {
     trues: TrueLiterals,
     /// For each literal that propagation gave the number of its clause, in the same order.

@@ -36,7 +36,7 @@ pub enum Reply {
 }
 
 /// Asks questions and writes their lines.
-#[derive(Debug, Drop)]
+#[derive(Drop)]
 pub struct Asker {
     alloc: Global,
     solver: Solver,

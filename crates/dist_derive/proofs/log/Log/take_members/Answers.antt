@@ -3,7 +3,7 @@ use Rattle.dist_clause.specs.Formula.{literal}
 use Rattle.dist_clause.specs.ClauseList.{clause_at}
 use Rattle.dist_derive.specs.OccurrencesPrivate.{code_of, Lists}
 use Rattle.dist_derive.specs.ConePrivate.{WaitsIn}
-use Rattle.dist_derive.proofs.ReachLemmas.{Reaches-none, members_more}
+use Rattle.dist_derive.proofs.ReachLemmas.{Reaches-none, members_more, members_all}
 use Rattle.dist_derive.proofs.log.Log.take_members.Goals as goal
 
 pub loop-done-init : goal.loop-done-init
@@ -20,3 +20,10 @@ loop-done-preserved c =
     (omega arith) c.close_list.ensures.reaches
     (subst (λ place. (number d : ℕ) → Lists index.links place number → number ≤ c.args.inputs → d ≤ length now.members
     → WaitsIn next.members d (clause_at c.args.self.now.clauses number)) latest c.close_list.ensures.visited)
+
+pub returns : goal.returns
+returns c = record {
+  reaches = c.loop-done.invariant.reaches;
+  closed = members_all c.args.self.now.clauses c.args.inputs c.args.index.now c.requires.index c.args.cone.now c.loop-done.cone c.loop-done.done
+      c.loop-done.invariant (omega arith);
+}

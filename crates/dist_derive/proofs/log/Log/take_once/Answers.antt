@@ -24,7 +24,7 @@ returns-in-Conflict-clause-known c =
 
 pub returns-in_default : goal.returns-in_default
 returns-in_default c = record {
-  taken = c.take_hint-outcome.ensures;
-  known = conflicts_kept c.args.self.now.clauses c.args.literals.now c.take_hint-outcome.new.literals c.args.conflicts.now c.args.hint
-      c.take_hint-outcome.result c.take_hint-outcome.ensures c.requires.known;
+  taken = c.take_clause-outcome.ensures;
+  known = conflicts_kept c.args.self.now.clauses c.args.literals.now c.take_clause-outcome.new.literals c.args.conflicts.now c.args.hint
+      c.take_clause-outcome.result c.take_clause-outcome.ensures c.requires.known;
 }

@@ -1,5 +1,9 @@
-use Rattle.std.proofs.Common.{◌≡◌, ◌-◌, ◌≤◌, [], ◌∷◌, ◌++◌, set, subst, sym, ap, ◌∙◌, arith}
+use Rattle.std.proofs.Common.{◌≡◌, ◌-◌, ◌≤◌, [], ◌∷◌, ◌++◌, length, set, subst, sym, ap, ◌∙◌, arith}
 use Rattle.std.specs.List.{All, Contains}
+use Rattle.std.proofs.lemmas.List.{length-map, length-set}
+use Rattle.std.proofs.lemmas.List.Elements.{All-push}
+use Rattle.dist_base.specs.declared.TheConstants.{MAX_VARIABLES}
+use Rattle.dist_clause.specs.Formula.{literal, value_of}
 use Rattle.dist_derive.specs.VariableSet.{VariableList}
 use Rattle.dist_derive.specs.TrueLiterals.{LiteralList, valued}
 use Rattle.dist_derive.specs.Propagation.{IsUnset}
@@ -12,6 +16,36 @@ add-requires-clause-fresh c = λ h.
     let unset = subst (λ trues. IsUnset trues c.args.literal) (sym literals) c.requires.unset in
     fresh-from_unset c.self.inside.signs c.self.inside.touched.members c.args.literal unset
     (subst (λ v. Contains c.self.inside.touched.members v) c.variable-variable.ensures.value h)
+
+pub add-requires-clause-from_one : goal.add-requires-clause-from_one
+add-requires-clause-from_one c = c.variable-variable.ensures.from_one
+
+pub add-requires-clause-in_range : goal.add-requires-clause-in_range
+add-requires-clause-in_range c =
+    let variables = ap (λ (t : LiteralList). t.variables) c.self.view_is in
+    omega (arith, variables, c.variable-variable.ensures.value, c.requires.in_range)
+
+pub set-requires : goal.set-requires
+set-requires c =
+    let variables = ap (λ (t : LiteralList). t.variables) c.self.view_is in
+    record {
+      from_one = c.variable-variable.ensures.from_one;
+      in_range = omega (arith, variables, c.self.invariant.each, c.variable-variable.ensures.value, c.requires.in_range);
+    }
+
+pub invariant_of-self : goal.invariant_of-self
+invariant_of-self c =
+    let v = c.variable-variable.result in
+    let added = c.add.ensures.added in
+    record {
+      each = ap length c.set.ensures ∙ (length-set c.self.inside.signs (v - 1) c.positive.result
+          ∙ (c.self.invariant.each ∙ sym (ap (λ (s : VariableList). s.variables) added)));
+      stated = subst (λ ms. All (λ w. w ≤ MAX_VARIABLES) ms) (sym (ap (λ (s : VariableList). s.members) added))
+          (All-push (λ w. w ≤ MAX_VARIABLES) c.self.inside.touched.members v c.self.invariant.stated c.variable-variable.ensures.to_limit);
+    }
+
+pub returns-clause-few : goal.returns-clause-few
+returns-clause-few c = omega (arith, length-map c.add.new.self.members (λ v. literal v (value_of c.set.new.self v)), c.add.ensures.few)
 
 pub returns-clause-added : goal.returns-clause-added
 returns-clause-added c =
