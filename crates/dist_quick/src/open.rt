@@ -82,6 +82,9 @@ impl Open {
             return Look::Rests;
         };
         let clause = clause_of(log, kept.number);
+        if is_true(clause, trail, kept.first) || is_true(clause, trail, kept.second) {
+            return Look::Rests;
+        }
         let first = standing(clause, trail, kept.first, kept.second);
         let second = standing(clause, trail, kept.second, first);
         if let Some(open) = self.clauses.get_mut(place) {
@@ -155,6 +158,13 @@ fn is_false(clause: &[Lit], trail: &Trail, place: usize) -> bool {
     clause
         .get(place)
         .is_none_or(|literal| trail.truth(*literal) == Truth::False)
+}
+
+/// Whether the literal at a place is true.
+fn is_true(clause: &[Lit], trail: &Trail, place: usize) -> bool {
+    clause
+        .get(place)
+        .is_some_and(|literal| trail.truth(*literal) == Truth::True)
 }
 
 /// A place of a literal that is not false and is not the other one: this place, or the next such one, round in the clause; this one
