@@ -19,7 +19,7 @@ use dist_cert::CertCause;
 use std::alloc::{AllocError, Global};
 
 /// A claim that pairs of a cluster and a class challenge a package, and perhaps others, by the installations that it names.
-#[derive(Clone, Copy, Debug)]
+#[derive(Clone, Copy)]
 pub struct ChallengeClaim<'a> {
     /// The variable of the package as it is.
     pub variable: u32,
@@ -173,6 +173,29 @@ fn omits_pair(layout: &Layout, found: &Found, variable: u32) -> bool
         .any(|cluster| leaves_out(layout, found, variable, *cluster))
 }
 
+/// Of a claim on the next package the first fault by the rules of challenges, if there is one, by what is looked up for it.
+fn fault_of(
+    layout: &Layout,
+    window: &Window,
+    group: &Group,
+    claim: &ChallengeClaim<'_>,
+    found: &Found,
+) -> Option<CertCause>
+    requires { IsFoundFor layout.now window.now group.now.cover claim.now.variable claim.now.named.now claim.now.by.now claim.now.undecided.now found.now }
+    ensures { TellsChallenge layout.now window.now group.now claim.now.variable claim.now.named.now claim.now.by.now claim.now.undecided.now result }
+{
+    if !are_pairs_right(layout, window, group, claim, found) {
+        return Some(CertCause::WrongClaim);
+    }
+    if is_any_covered(layout, found, claim.undecided) {
+        return Some(CertCause::WrongClaim);
+    }
+    if omits_pair(layout, found, claim.variable) {
+        return Some(CertCause::Incomplete);
+    }
+    None
+}
+
 /// Of a claim on the next package the first fault by the rules of challenges, if there is one.
 pub fn judge_challenge(
     alloc: Global,
@@ -185,14 +208,7 @@ pub fn judge_challenge(
         (TellsChallenge layout.now window.now group.now claim.now.variable claim.now.named.now claim.now.by.now claim.now.undecided.now) }
 {
     let found = Found::new(alloc, layout, window, group, claim)?;
-    if !are_pairs_right(layout, window, group, claim, &found) {
-        return Ok(Some(CertCause::WrongClaim));
-    }
-    if is_any_covered(layout, &found, claim.undecided) {
-        return Ok(Some(CertCause::WrongClaim));
-    }
-    if omits_pair(layout, &found, claim.variable) {
-        return Ok(Some(CertCause::Incomplete));
-    }
-    Ok(None)
+    let told = fault_of(layout, window, group, claim, &found);
+    drop(found);
+    Ok(told)
 }

@@ -9,7 +9,7 @@ use std::marker::Model;
 
 /// Of the questions that were closed in one way those that a claim on one package may name: the claim's own, and whether
 /// the package's variable is without another one, or together with it.
-#[derive(Debug, Drop)]
+#[derive(Drop)]
 pub(crate) struct Closed {
     alone: bool,
     without: NumberSet,

@@ -6,14 +6,14 @@ ghost use Rattle.dist_check_group.specs.Layout.{non_packages, used};
 ghost use Rattle.dist_check_group.specs.Cover.{Gathers};
 
 use crate::layout::Layout;
-use crate::numbers::{has, narrow, put_in_order, thin};
+use crate::numbers::{has, narrow_in, put_in_order, thin};
 use dist_cert::{Items, Numbers};
 use std::alloc::{AllocError, Global};
 use std::marker::Model;
 
 /// Of the installations that count the clusters that all of them use, if there are any, and what one of them holds besides
 /// packages.
-#[derive(Debug, Drop)]
+#[derive(Drop)]
 pub(crate) struct Cover {
     used: Option<Numbers>,
     held: Vec<u32>,
@@ -60,9 +60,8 @@ impl Cover {
             return Ok(());
         }
         let used = used_by(alloc, layout, members)?;
-        let clusters = self.used.take();
-        let kept = narrow(alloc, clusters, &used)?;
-        self.used = Some(kept);
+        narrow_in(alloc, &mut self.used, &used)?;
+        drop(used);
         add_held(layout, members, &mut self.held)?;
         let limit = thin(&mut self.held, self.limit);
         self.limit = limit;

@@ -1,11 +1,11 @@
 //! What is looked up for a claim on challenges: once for the claim, so that each test of it is a halving. A claim that is
 //! right lists nearly all that it must, so few clusters are left to be looked for in the installations that it names.
-ghost use Rattle.std.specs.Prelude.{◌≡◌, ◌==◌, ◌&&◌, ◌||◌, ℕ, IfOk, OnOk, filter, length, map, not};
+ghost use Rattle.std.specs.Prelude.{◌≡◌, ◌==◌, ◌&&◌, ◌||◌, ◌↔◌, ℕ, Contains, IfOk, OnOk, filter, length, map, not};
 ghost use Rattle.std.specs.List.{list_any};
 ghost use Rattle.dist_cert.specs.Rising.{AreRising, is_among};
 ghost use Rattle.dist_check_group.specs.Layout.{at_class, is_package, non_packages, used};
 ghost use Rattle.dist_check_group.specs.Window.{members_at};
-ghost use Rattle.dist_check_group.specs.Challenge.{first_used, is_held, use_each};
+ghost use Rattle.dist_check_group.specs.Challenge.{first_used, is_held, is_used, use_each};
 ghost use Rattle.dist_check_group.specs.MarksPrivate.{is_marked};
 ghost use Rattle.dist_check_group.specs.FoundPrivate.{FoundView, IsFoundFor, is_asked};
 
@@ -21,7 +21,7 @@ use std::alloc::{AllocError, Global};
 use std::marker::Model;
 
 /// Clusters that all of a claim's installations use, what one of them holds, and the variables of the claim's pairs.
-#[derive(Debug, Drop)]
+#[derive(Drop)]
 pub(crate) struct Found {
     used: Vec<u32>,
     held: Marks,
@@ -52,17 +52,58 @@ impl Found {
         ensures { IfOk result (IsFoundFor layout.now window.now group.now.cover claim.now.variable claim.now.named.now claim.now.by.now claim.now.undecided.now) }
     {
         let named = each_once(alloc, claim.named)?;
-        let mut found = Found {
+        let found = Found::by_names(alloc, layout, window, group, claim, &named);
+        drop(named);
+        found
+    }
+
+    /// The same, where the installations that the claim names are given, each once.
+    fn by_names(
+        alloc: Global,
+        layout: &Layout,
+        window: &Window,
+        group: &Group,
+        claim: &ChallengeClaim<'_>,
+        named: &[u32],
+    ) -> Result<Found, AllocError>
+        requires { (q : ℕ) → Contains named.now q ↔ Contains claim.now.named.now q }
+        ensures { IfOk result (IsFoundFor layout.now window.now group.now.cover claim.now.variable claim.now.named.now claim.now.by.now claim.now.undecided.now) }
+    {
+        let mut found = Found::listed(alloc, layout, window, group, claim, named)?;
+        match used_by_all(alloc, layout, window, group, &found, claim.variable, named) {
+            Ok(used) => {
+                found.set_used(used);
+                Ok(found)
+            }
+            Err(error) => {
+                drop(found);
+                Err(error)
+            }
+        }
+    }
+
+    /// The same without the clusters.
+    fn listed(
+        alloc: Global,
+        layout: &Layout,
+        window: &Window,
+        group: &Group,
+        claim: &ChallengeClaim<'_>,
+        named: &[u32],
+    ) -> Result<Found, AllocError>
+        ensures held { IfOk result (λ found. (v : ℕ) → is_marked found.held v ≡ is_held layout.now window.now group.now.cover named.now v) }
+        ensures by { IfOk result (λ found. (v : ℕ) → is_among found.by v ≡ is_among (map (at_class layout.now) claim.now.by.now) v) }
+        ensures undecided { IfOk result (λ found. (v : ℕ) → is_among found.undecided v ≡ is_among (map (at_class layout.now) claim.now.undecided.now) v) }
+    {
+        let by = variables_of(alloc, layout, claim.by)?;
+        let undecided = variables_of(alloc, layout, claim.undecided)?;
+        let held = held_by_one(alloc, layout, window, group, named)?;
+        Ok(Found {
             used: Vec::new(alloc),
-            held: held_by_one(alloc, layout, window, group, &named)?,
-            by: variables_of(alloc, layout, claim.by)?,
-            undecided: variables_of(alloc, layout, claim.undecided)?,
-        };
-        let mut used = first_used(alloc, layout, window, group, &named)?;
-        keep_asked(layout, &found, claim.variable, &mut used);
-        keep_used_by_each(alloc, layout, window, &named, &mut used)?;
-        found.set_used(used);
-        Ok(found)
+            held,
+            by,
+            undecided,
+        })
     }
 
     /// Sets the clusters.
@@ -182,6 +223,26 @@ fn first_used(
         Some(number) => used_by(alloc, layout, window.members(*number)),
         None => Ok(Vec::new(alloc)),
     }
+}
+
+/// The clusters that all of the claim's installations use, of those that a test asks for.
+fn used_by_all(
+    alloc: Global,
+    layout: &Layout,
+    window: &Window,
+    group: &Group,
+    found: &Found,
+    variable: u32,
+    named: &[u32],
+) -> Result<Vec<u32>, AllocError>
+    ensures value { IfOk result (λ used. (c : ℕ) → is_among used.items c
+        ≡ (is_used layout.now window.now group.now.cover named.now c && is_asked layout.now found.now variable c)) }
+    ensures rising { IfOk result (λ used. AreRising used.items) }
+{
+    let mut used = first_used(alloc, layout, window, group, named)?;
+    keep_asked(layout, found, variable, &mut used);
+    keep_used_by_each(alloc, layout, window, named, &mut used)?;
+    Ok(used)
 }
 
 /// Marks a member, unless it is a package.

@@ -9,14 +9,14 @@ ghost use Rattle.dist_cert.specs.Rising.{AreRising};
 use crate::closed::Closed;
 use crate::cover::Cover;
 use crate::layout::Layout;
-use crate::numbers::{has, narrow};
+use crate::numbers::{has, narrow_in};
 use dist_cert::{CertKind, Numbers};
 use std::alloc::{AllocError, Global};
 use std::marker::Model;
 
 /// The closed questions of a group, and of its installations what a claim of the kind asks: what is common to them, or
 /// what they use and hold.
-#[derive(Debug, Drop)]
+#[derive(Drop)]
 pub struct Group {
     pub(crate) refuted: Closed,
     pub(crate) undecided: Closed,
@@ -78,8 +78,7 @@ impl Group {
         ensures { OnOk result (self.new ≡ record self.old { common = common_with variable members.now self.old.common }) }
     {
         if has(members, variable) {
-            let common = self.common.take();
-            self.common = Some(narrow(alloc, common, members)?);
+            narrow_in(alloc, &mut self.common, members)?;
         }
         Ok(())
     }

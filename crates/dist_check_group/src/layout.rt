@@ -8,7 +8,7 @@ use std::alloc::Global;
 use std::marker::Model;
 
 /// The kind of a certificate, the cluster of each variable, and the variables of each cluster's classes.
-#[derive(Debug, Drop)]
+#[derive(Drop)]
 pub struct Layout {
     kind: CertKind,
     /// The first place is of no variable.

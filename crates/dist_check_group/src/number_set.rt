@@ -8,7 +8,7 @@ use std::collections::BTreeSet;
 use std::marker::Model;
 
 /// A set of numbers. Emptying it costs what it has.
-#[derive(Debug, Drop)]
+#[derive(Drop)]
 pub(crate) struct NumberSet {
     numbers: BTreeSet<u32>,
 }

@@ -1,5 +1,5 @@
 //! Rising lists of numbers, as lines name them.
-ghost use Rattle.std.specs.Prelude.{◌≡◌, ◌==◌, ◌↔◌, ◌&&◌, ℕ, IfOk, IsTrue, filter, nat_le, not};
+ghost use Rattle.std.specs.Prelude.{◌≡◌, ◌==◌, ◌↔◌, ◌&&◌, ℕ, IfOk, IsTrue, OnOk, Some, filter, nat_le, not};
 ghost use Rattle.std.specs.List.{list_all, list_any};
 ghost use Rattle.std.specs.Option.{ForSome};
 ghost use Rattle.dist_cert.specs.Rising.{AreRising, is_among};
@@ -86,11 +86,7 @@ pub(crate) fn thin(numbers: &mut Vec<u32>, limit: usize) -> usize
 }
 
 /// The numbers that are common, and among the others too.
-pub(crate) fn narrow(
-    alloc: Global,
-    common: Option<Numbers>,
-    others: &[u32],
-) -> Result<Numbers, AllocError>
+fn narrow(alloc: Global, common: Option<Numbers>, others: &[u32]) -> Result<Numbers, AllocError>
     requires others { AreRising others.now }
     requires common { ForSome common AreRising }
     ensures value { IfOk result (λ kept. kept ≡ narrowed common others.now) }
@@ -104,4 +100,20 @@ pub(crate) fn narrow(
             Ok(Items::from_vec(kept))
         }
     }
+}
+
+/// Narrows what is common by the others. After want of memory nothing is common.
+pub(crate) fn narrow_in(
+    alloc: Global,
+    common: &mut Option<Numbers>,
+    others: &[u32],
+) -> Result<(), AllocError>
+    requires others { AreRising others.now }
+    requires common { ForSome common.old AreRising }
+    ensures value { OnOk result (common.new ≡ Some (narrowed common.old others.now)) }
+    ensures rising { ForSome common.new AreRising }
+{
+    let kept = narrow(alloc, common.take(), others)?;
+    drop(common.replace(kept));
+    Ok(())
 }

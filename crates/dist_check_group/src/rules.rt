@@ -12,7 +12,7 @@ use dist_cert::CertCause;
 use std::alloc::{AllocError, Global};
 
 /// A claim that a package depends strongly on some packages, and perhaps on others, by the installations that it names.
-#[derive(Clone, Copy, Debug)]
+#[derive(Clone, Copy)]
 pub struct StrongClaim<'a> {
     pub package: u32,
     pub named: &'a [u32],

@@ -11,7 +11,7 @@ use std::collections::VecDeque;
 use std::marker::Model;
 
 /// The latest installations, as many as a claim may reach back. They are numbered from 1.
-#[derive(Debug, Drop)]
+#[derive(Drop)]
 pub struct Window {
     kept: VecDeque<Numbers>,
     /// How many installations there were.

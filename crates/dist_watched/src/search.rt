@@ -22,7 +22,7 @@ pub enum Turn {
 }
 
 /// A search by watched literals.
-#[derive(Debug, Drop)]
+#[derive(Drop)]
 pub struct Watched {
     variables: u32,
     pub(crate) cone: Vec<u32>,

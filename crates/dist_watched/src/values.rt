@@ -37,7 +37,7 @@ const NONE: Origin = Origin {
 
 /// Values, as long as they stand. On the ground stand the assumptions and what follows from them, on each level above it a
 /// decision and what follows.
-#[derive(Debug, Drop)]
+#[derive(Drop)]
 pub(crate) struct Values {
     /// By the slots of literals.
     truths: Vec<Truth>,
