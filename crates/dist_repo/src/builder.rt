@@ -6,6 +6,7 @@ ghost use Rattle.dist_repo.specs.Order.{IsInOrder, IsSamePackage};
 use crate::key::Key;
 use crate::matching::are_same;
 use crate::package::Package;
+use crate::pairs::beside;
 use crate::repository::Repository;
 use dist_relation::Name;
 use std::alloc::{AllocError, Global};
@@ -135,8 +136,8 @@ impl Builder {
         ensures in_order { IsInOrder (packages_of self) }
     {
         let Builder { alloc, packages } = self;
-        let packages = in_order(alloc, packages)?;
-        Repository::from_packages(alloc, architecture, packages)
+        let both = beside(architecture, in_order(alloc, packages))?;
+        Repository::from_packages(alloc, both.first, both.second)
     }
 }
 
@@ -146,6 +147,7 @@ fn told_beside(held: &Package, kept: u64, package: Package) -> Result<Added, Add
     ensures either { (result ≡ Ok Added.Same) ⊎ (result ≡ Err (AddError.Clash kept «package»)) }
 {
     if *held == package {
+        drop(package);
         return Ok(Added::Same);
     }
     Err(AddError::Clash(kept, package))

@@ -15,6 +15,7 @@ mod names;
 mod offers;
 mod own;
 mod package;
+mod pairs;
 mod prefix;
 mod repository;
 mod size;

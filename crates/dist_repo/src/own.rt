@@ -1,5 +1,5 @@
 //! What packages offer of their own names, in the order of packages. The offers of a name stand together, in the order of versions.
-ghost use Rattle.std.specs.Prelude.{◌≡◌, ◌↔◌, ◌<◌, ◌^◌, ℕ, Contains, IfOk, length};
+ghost use Rattle.std.specs.Prelude.{◌≡◌, ◌↔◌, ◌<◌, ◌^◌, ℕ, Contains, IfOk, OnOk, [], length};
 ghost use Rattle.dist_repo.specs.Offers.{AreInVersionOrder, IsOwnOffer};
 ghost use Rattle.dist_repo.specs.Order.{IsInOrder};
 ghost use Rattle.dist_repo.specs.OwnPrivate.{AreCounted, AreNumbersNamed, AreOwn};
@@ -17,25 +17,46 @@ pub(crate) struct Own {
     pub(crate) offers: Vec<Offer>,
 }
 
+impl Own {
+    /// Adds what the packages offer of their own names to empty lists.
+    fn fill(&mut self, packages: &[Key]) -> Result<(), AllocError>
+        requires few { length packages.now < 2 ^ 32 }
+        requires numbers { self.old.numbers.items ≡ [] }
+        requires offers { self.old.offers.items ≡ [] }
+        ensures numbers { OnOk result (AreCounted (length packages.now) self.new.numbers.items) }
+        ensures offers { OnOk result (AreOwn packages.now (length packages.now) self.new.offers.items) }
+    {
+        for (number, key) in packages.iter().enumerate() {
+            let place = key.package().provides.len();
+            if place > u32::MAX as usize {
+                return Err(AllocError);
+            }
+            let number = number as u32;
+            let place = place as u32;
+            self.numbers.push(number)?;
+            self.offers.push(Offer { number, place })?;
+        }
+        Ok(())
+    }
+}
+
 /// What the packages offer of their own names. A place past 4,294,967,295 is want of memory too.
 pub(crate) fn own_of(alloc: Global, packages: &[Key]) -> Result<Own, AllocError>
     requires { length packages.now < 2 ^ 32 }
     ensures numbers { IfOk result (λ own. AreCounted (length packages.now) own.numbers.items) }
     ensures offers { IfOk result (λ own. AreOwn packages.now (length packages.now) own.offers.items) }
 {
-    let mut numbers = Vec::new(alloc);
-    let mut offers = Vec::new(alloc);
-    for (number, key) in packages.iter().enumerate() {
-        let place = key.package().provides.len();
-        if place > u32::MAX as usize {
-            return Err(AllocError);
+    let mut own = Own {
+        numbers: Vec::new(alloc),
+        offers: Vec::new(alloc),
+    };
+    match own.fill(packages) {
+        Ok(()) => Ok(own),
+        Err(error) => {
+            drop(own);
+            Err(error)
         }
-        let number = number as u32;
-        let place = place as u32;
-        numbers.push(number)?;
-        offers.push(Offer { number, place })?;
     }
-    Ok(Own { numbers, offers })
 }
 
 /// The numbers of the packages of a name.

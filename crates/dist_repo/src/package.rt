@@ -2,6 +2,7 @@
 ghost use Rattle.std.specs.Prelude.{◌≡◌, ◌↔◌, IfOk, IsTrue};
 ghost use Rattle.dist_repo.specs.EqualityPrivate.{package_eq};
 
+use crate::pairs::{Pair, beside};
 use dist_relation::{Atoms, Items, Name, Provides};
 use dist_version::Version;
 use std::alloc::AllocError;
@@ -27,16 +28,64 @@ impl Package {
     pub fn try_clone(&self) -> Result<Package, AllocError>
         ensures { IfOk result (λ copy. copy ≡ self.now) }
     {
-        Ok(Package {
-            name: self.name.try_clone()?,
-            version: self.version.try_clone()?,
-            source: self.source.try_clone()?,
-            source_version: self.source_version.try_clone()?,
-            depends: self.depends.try_clone()?,
-            conflicts: self.conflicts.try_clone()?,
-            provides: self.provides.try_clone()?,
-            essential: self.essential,
-        })
+        let own = copied(&self.name, &self.version)?;
+        let names = beside(own, copied(&self.source, &self.source_version))?;
+        let with_depends = beside(names, self.depends.try_clone())?;
+        let with_conflicts = beside(with_depends, self.conflicts.try_clone())?;
+        let all = beside(with_conflicts, self.provides.try_clone())?;
+        Ok(package_of(all, self.essential))
+    }
+}
+
+/// Copies of a name and a version.
+fn copied(name: &Name, version: &Version) -> Result<Pair<Name, Version>, AllocError>
+    ensures { IfOk result (λ pair. (pair.first ≡ name.now) × (pair.second ≡ version.now)) }
+{
+    beside(name.try_clone()?, version.try_clone())
+}
+
+/// What a package has, its name and version first, and then its source and the version of that.
+type Parts = Pair<
+    Pair<Pair<Pair<Pair<Name, Version>, Pair<Name, Version>>, Items>, Atoms>,
+    Provides,
+>;
+
+/// The package of its parts.
+fn package_of(parts: Parts, essential: bool) -> Package
+    ensures name { result.name ≡ parts.first.first.first.first.first }
+    ensures version { result.version ≡ parts.first.first.first.first.second }
+    ensures source { result.source ≡ parts.first.first.first.second.first }
+    ensures source_version { result.source_version ≡ parts.first.first.first.second.second }
+    ensures depends { result.depends ≡ parts.first.first.second }
+    ensures conflicts { result.conflicts ≡ parts.first.second }
+    ensures provides { result.provides ≡ parts.second }
+    ensures essential { result.essential ≡ essential }
+{
+    let Pair {
+        first,
+        second: provides,
+    } = parts;
+    let Pair {
+        first,
+        second: conflicts,
+    } = first;
+    let Pair {
+        first: names,
+        second: depends,
+    } = first;
+    let Pair {
+        first: own,
+        second: source,
+    } = names;
+    Package {
+        name: own.first,
+        version: own.second,
+        source: source.first,
+        source_version: source.second,
+        depends,
+        conflicts,
+        provides,
+        essential,
     }
 }
 

@@ -1,12 +1,14 @@
 //! The packages of a file in order, and what can be asked of them without taking memory.
-ghost use Rattle.std.specs.Prelude.{◌≡◌, ◌<◌, ◌^◌, ◌↔◌, ℕ, [], Some, length, slice_get, slice_index_or, IsTrue, IfOk, MatchOption};
+ghost use Rattle.std.specs.Prelude.{◌≡◌, ◌<◌, ◌^◌, ◌↔◌, ℕ, [], Some, length, slice_get, slice_index_or, IsTrue, IfOk, MatchOption, OnOk};
 ghost use Rattle.std.specs.Option.{option_copied};
 ghost use Rattle.dist_relation.specs.declared.atom.Atom.{Atom};
 ghost use Rattle.dist_repo.specs.Conflict.{AreInConflict};
+ghost use Rattle.dist_repo.specs.Indexed.{IsIndex};
 ghost use Rattle.dist_repo.specs.LatestPrivate.{is_last_of_name, last_of_names};
 ghost use Rattle.dist_repo.specs.Match.{IsUsable, Matches};
 ghost use Rattle.dist_repo.specs.Offers.{AreMatched, AreOffers};
 ghost use Rattle.dist_repo.specs.Order.{key_cmp, IsFlat, IsInOrder, IsLatestOf};
+ghost use Rattle.dist_repo.specs.OwnPrivate.{AreCounted, AreOwn};
 ghost use Rattle.dist_repo.specs.PackageList.{IsAlternativeAt, IsConflictAt};
 ghost use Rattle.dist_repo.specs.Providers.{AreProviders, IsPackageAt};
 ghost use Rattle.dist_repo.specs.Size.{IsWithinSize};
@@ -18,6 +20,7 @@ use crate::names::{NameIndex, place_of};
 use crate::offers::Offer;
 use crate::own::{Own, numbers_named, offers_named, own_of};
 use crate::package::Package;
+use crate::pairs::{Pair, beside};
 use crate::size::has_few_relations;
 use crate::tally::tally_of;
 use dist_base::MAX_PACKAGES;
@@ -60,14 +63,19 @@ impl Repository {
         requires few { length packages.items < 2 ^ 32 }
         ensures { IfOk result (λ r. r ≡ record { architecture = architecture; packages = packages.items }) }
     {
-        let own = own_of(alloc, &packages)?;
-        let index = tally_of(alloc, &architecture, &packages)?.flattened(&packages, &own.offers)?;
-        Ok(Repository {
-            architecture,
-            packages,
-            own,
-            index,
-        })
+        match tables_of(alloc, &architecture, &packages) {
+            Ok(tables) => Ok(Repository {
+                architecture,
+                packages,
+                own: tables.first,
+                index: tables.second,
+            }),
+            Err(error) => {
+                drop(architecture);
+                drop(packages);
+                Err(error)
+            }
+        }
     }
 
     /// How many packages there are.
@@ -202,8 +210,46 @@ impl Repository {
             Some(name) => Some(name.try_clone()?),
             None => None,
         };
-        Repository::from_packages(alloc, architecture, newest_of(alloc, &self.packages)?)
+        let both = beside(architecture, newest_of(alloc, &self.packages))?;
+        Repository::from_packages(alloc, both.first, both.second)
     }
+}
+
+/// What packages offer of their own names, and the index of the names that entries of Provides have.
+fn tables_of(
+    alloc: Global,
+    architecture: &Option<Name>,
+    packages: &[Key],
+) -> Result<Pair<Own, NameIndex>, AllocError>
+    requires in_order { IsInOrder packages.now }
+    requires few { length packages.now < 2 ^ 32 }
+    ensures counted { IfOk result (λ tables. AreCounted (length packages.now) tables.first.numbers.items) }
+    ensures own { IfOk result (λ tables. AreOwn packages.now (length packages.now) tables.first.offers.items) }
+    ensures index { IfOk result (λ tables. IsIndex (record { architecture = architecture.now; packages = packages.now })
+        tables.second.names tables.second.numbers tables.second.offers) }
+{
+    let own = own_of(alloc, packages)?;
+    let index = index_of(alloc, architecture, packages, &own.offers);
+    beside(own, index)
+}
+
+/// The index of the names that entries of Provides have.
+fn index_of(
+    alloc: Global,
+    architecture: &Option<Name>,
+    packages: &[Key],
+    own: &[Offer],
+) -> Result<NameIndex, AllocError>
+    requires in_order { IsInOrder packages.now }
+    requires few { length packages.now < 2 ^ 32 }
+    requires own { AreOwn packages.now (length packages.now) own.now }
+    ensures { IfOk result (λ index. IsIndex (record { architecture = architecture.now; packages = packages.now })
+        index.names index.numbers index.offers) }
+{
+    let tally = tally_of(alloc, architecture, packages)?;
+    let index = tally.flattened(packages, own);
+    drop(tally);
+    index
 }
 
 /// Copies of the last package of each name.
@@ -211,6 +257,20 @@ fn newest_of(alloc: Global, packages: &[Key]) -> Result<Vec<Key>, AllocError>
     ensures { IfOk result (λ newest. newest.items ≡ last_of_names packages.now) }
 {
     let mut newest = Vec::new(alloc);
+    match push_newest(alloc, packages, &mut newest) {
+        Ok(()) => Ok(newest),
+        Err(error) => {
+            drop(newest);
+            Err(error)
+        }
+    }
+}
+
+/// Adds copies of the last package of each name to an empty list.
+fn push_newest(alloc: Global, packages: &[Key], newest: &mut Vec<Key>) -> Result<(), AllocError>
+    requires { newest.old.items ≡ [] }
+    ensures { OnOk result (newest.new.items ≡ last_of_names packages.now) }
+{
     let mut rest = packages;
     while let [first, others @ ..] = rest {
         if is_last_of_name(first, others) {
@@ -218,7 +278,7 @@ fn newest_of(alloc: Global, packages: &[Key]) -> Result<Vec<Key>, AllocError>
         }
         rest = others;
     }
-    Ok(newest)
+    Ok(())
 }
 
 /// Whether the packages behind a package begin with another name, or there is none.

@@ -123,6 +123,22 @@ impl<'a> Tally<'a> {
         Ok(())
     }
 
+    /// Notes what all packages of a list offer by entries, where nothing is noted.
+    fn note_packages(
+        &mut self,
+        architecture: &Option<Name>,
+        packages: &'a [Key],
+    ) -> Result<(), AllocError>
+        requires few { length packages.now < 2 ^ 32 }
+        requires none { self.old ≡ [] }
+        ensures { OnOk result (IsTallyOf architecture.now packages.now self.new) }
+    {
+        for (number, key) in packages.iter().enumerate() {
+            self.note_package(architecture, key.package(), number as u32)?;
+        }
+        Ok(())
+    }
+
     /// The names, and beside each its providers and their offers, the packages' own among them, laid flat.
     pub(crate) fn flattened(&self, packages: &[Key], own: &[Offer]) -> Result<NameIndex, AllocError>
         requires in_order { IsInOrder packages.now }
@@ -132,25 +148,69 @@ impl<'a> Tally<'a> {
         ensures numbers { IfOk result (λ index. AllZip AreNumbersOf index.numbers index.offers) }
         ensures offers { IfOk result (λ index. AllZip (IsRowOf packages.now) index.offers self.now) }
     {
-        let mut names = Flat::new(self.alloc);
-        let mut numbers = Flat::new(self.alloc);
-        let mut offers = Flat::new(self.alloc);
-        let mut some_numbers = Vec::new(self.alloc);
-        let mut some_offers = Vec::new(self.alloc);
+        let mut index = NameIndex {
+            names: Flat::new(self.alloc),
+            numbers: Flat::new(self.alloc),
+            offers: Flat::new(self.alloc),
+        };
+        match self.fill(packages, own, &mut index) {
+            Ok(()) => Ok(index),
+            Err(error) => {
+                drop(index);
+                Err(error)
+            }
+        }
+    }
+
+    /// Adds the names to an empty index, and beside each its providers and their offers.
+    fn fill(&self, packages: &[Key], own: &[Offer], index: &mut NameIndex) -> Result<(), AllocError>
+        requires in_order { IsInOrder packages.now }
+        requires own { AreOwn packages.now (length packages.now) own.now }
+        requires names { index.old.names ≡ [] }
+        requires numbers { index.old.numbers ≡ [] }
+        requires offers { index.old.offers ≡ [] }
+        ensures names { OnOk result (index.new.names ≡ keys_of self.now) }
+        ensures in_order { OnOk result (IsStrictlySortedBy (slice_cmp nat_cmp) index.new.names) }
+        ensures numbers { OnOk result (AllZip AreNumbersOf index.new.numbers index.new.offers) }
+        ensures offers { OnOk result (AllZip (IsRowOf packages.now) index.new.offers self.now) }
+    {
+        let mut numbers = Vec::new(self.alloc);
+        let mut offers = Vec::new(self.alloc);
+        let filled = self.fill_rows(packages, own, &mut numbers, &mut offers, index);
+        drop(numbers);
+        drop(offers);
+        filled
+    }
+
+    /// The same, with lists for the providers of one name and their offers.
+    fn fill_rows(
+        &self,
+        packages: &[Key],
+        own: &[Offer],
+        some_numbers: &mut Vec<u32>,
+        some_offers: &mut Vec<Offer>,
+        index: &mut NameIndex,
+    ) -> Result<(), AllocError>
+        requires in_order { IsInOrder packages.now }
+        requires own { AreOwn packages.now (length packages.now) own.now }
+        requires names { index.old.names ≡ [] }
+        requires numbers { index.old.numbers ≡ [] }
+        requires offers { index.old.offers ≡ [] }
+        ensures names { OnOk result (index.new.names ≡ keys_of self.now) }
+        ensures in_order { OnOk result (IsStrictlySortedBy (slice_cmp nat_cmp) index.new.names) }
+        ensures numbers { OnOk result (AllZip AreNumbersOf index.new.numbers index.new.offers) }
+        ensures offers { OnOk result (AllZip (IsRowOf packages.now) index.new.offers self.now) }
+    {
         for (key, list) in self.offers.iter() {
             let name = key.name().bytes();
             let named = offers_named(packages, own, name);
-            write_order(packages, list.as_slice(), named, &mut some_offers)?;
-            write_numbers(&some_offers, &mut some_numbers)?;
-            names.push(name)?;
-            numbers.push(&some_numbers)?;
-            offers.push(&some_offers)?;
+            write_order(packages, list.as_slice(), named, some_offers)?;
+            write_numbers(some_offers, some_numbers)?;
+            index.names.push(name)?;
+            index.numbers.push(some_numbers)?;
+            index.offers.push(some_offers)?;
         }
-        Ok(NameIndex {
-            names,
-            numbers,
-            offers,
-        })
+        Ok(())
     }
 }
 
@@ -164,8 +224,11 @@ pub(crate) fn tally_of<'a>(
     ensures { IfOk result (IsTallyOf architecture.now packages.now) }
 {
     let mut tally = Tally::new(alloc);
-    for (number, key) in packages.iter().enumerate() {
-        tally.note_package(architecture, key.package(), number as u32)?;
+    match tally.note_packages(architecture, packages) {
+        Ok(()) => Ok(tally),
+        Err(error) => {
+            drop(tally);
+            Err(error)
+        }
     }
-    Ok(tally)
 }

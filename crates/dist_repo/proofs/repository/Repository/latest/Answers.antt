@@ -11,19 +11,22 @@ use Rattle.dist_repo.proofs.repository.Repository.latest.Goals as goal
 pub from_packages-requires-clause-in_order : goal.from_packages-requires-clause-in_order
 from_packages-requires-clause-in_order c =
     let Ordered : List Package → Type 0 = IsInOrder in
-    subst Ordered (sym (c.in_ok-newest_of.ensures ∙ ap last_of_names c.deref.ensures.value))
+    let newest = rw c.in_ok-both.ensures.second at c.newest_of.ensures in
+    subst Ordered (sym (newest ∙ ap last_of_names c.deref.ensures.value))
     (in_order-kept c.self.inside.packages.items c.self.invariant.in_order)
 
 pub from_packages-requires-clause-few : goal.from_packages-requires-clause-few
 from_packages-requires-clause-few c =
-    let kept = c.in_ok-newest_of.ensures ∙ ap last_of_names c.deref.ensures.value in
+    let newest = rw c.in_ok-both.ensures.second at c.newest_of.ensures in
+    let kept = newest ∙ ap last_of_names c.deref.ensures.value in
     omega (arith, ap (λ (list : List Package). length list) kept, short-kept c.self.inside.packages.items, c.self.invariant.few)
 
 pub returns : goal.returns
 returns c =
     let inside : PackageList = record { architecture = c.self.inside.architecture; packages = c.self.inside.packages.items } in
-    let packages : c.in_ok-newest_of.field-0.items ≡ last_of_names inside.packages = c.in_ok-newest_of.ensures ∙ ap last_of_names c.deref.ensures.value in
-    let architecture : c.match-self.architecture ≡ inside.architecture = elim c.match-self.branch [
+    let newest = rw c.in_ok-both.ensures.second at c.newest_of.ensures in
+    let packages : c.in_ok-both.both.second.items ≡ last_of_names inside.packages = newest ∙ ap last_of_names c.deref.ensures.value in
+    let architecture : c.in_ok-both.both.first ≡ inside.architecture = c.in_ok-both.ensures.first ∙ elim c.match-self.branch [
       | in-Some+in_ok-try_clone-in-Some w ↦
           let same = w.in_ok-try_clone-in-Some.ensures in
           w.architecture-is ∙ ap (λ (name : List ℕ). Some name) same ∙ sym w.in-Some.is

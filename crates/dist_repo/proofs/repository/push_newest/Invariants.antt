@@ -1,6 +1,6 @@
 use Rattle.std.proofs.Common.{◌≡◌, ◌++◌, length}
 use Rattle.dist_repo.specs.LatestPrivate.{last_of_names}
-use Rattle.dist_repo.proofs.repository.newest_of.Given as goal
+use Rattle.dist_repo.proofs.repository.push_newest.Given as goal
 
 -- what was found and what is still to be found are all
 abbrev pub invariant-loop-rest : goal.invariant-loop-rest
