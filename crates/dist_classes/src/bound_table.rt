@@ -163,6 +163,17 @@ impl<'a> Table<'a> {
         self.note_conflicts(repo, &package.conflicts)?;
         Ok(())
     }
+
+    /// Notes all atoms of a repository, where nothing is noted.
+    fn note_packages(&mut self, repo: &'a Repository) -> Result<(), AllocError>
+        requires { self.old ≡ [] }
+        ensures { OnOk result (IsTableOf repo.now self.new) }
+    {
+        for number in 0..repo.len() {
+            self.note_package(repo, repo.package(number))?;
+        }
+        Ok(())
+    }
 }
 
 /// The versions in bounds of all atoms of a repository.
@@ -170,8 +181,11 @@ pub(crate) fn table_of<'a>(alloc: Global, repo: &'a Repository) -> Result<Table<
     ensures { IfOk result (λ table. IsTableOf repo.now table) }
 {
     let mut table = Table::new(alloc);
-    for number in 0..repo.len() {
-        table.note_package(repo, repo.package(number))?;
+    match table.note_packages(repo) {
+        Ok(()) => Ok(table),
+        Err(error) => {
+            drop(table);
+            Err(error)
+        }
     }
-    Ok(table)
 }

@@ -36,6 +36,7 @@ impl Classes {
         ensures { IfOk result (λ kept. kept ≡ classes.items) }
     {
         if classes.len() > u32::MAX as usize {
+            drop(classes);
             return Err(AllocError);
         }
         Ok(Classes { classes })
@@ -87,12 +88,26 @@ pub fn class_of(classes: &Classes, version: &Version) -> Option<u32>
     None
 }
 
+/// The class between two versions.
+fn between(low: &Version, high: &Version) -> Result<Class, AllocError>
+    ensures { IfOk result (λ class. class ≡ Class.Between low.now high.now) }
+{
+    let low = low.try_clone()?;
+    match high.try_clone() {
+        Ok(high) => Ok(Class::Between(low, high)),
+        Err(error) => {
+            drop(low);
+            Err(error)
+        }
+    }
+}
+
 /// Adds the class below a cut and above what is below it, and that of the cut.
 fn push_cut(classes: &mut Vec<Class>, low: &Version, cut: &Version) -> Result<(), AllocError>
     ensures { OnOk result (classes.new.items
         ≡ classes.old.items ++ (Class.Between low.now cut.now ∷ Class.Point cut.now ∷ [])) }
 {
-    classes.push(Class::Between(low.try_clone()?, cut.try_clone()?))?;
+    classes.push(between(low, cut)?)?;
     classes.push(Class::Point(cut.try_clone()?))?;
     Ok(())
 }
@@ -124,8 +139,13 @@ pub(crate) fn classes_above(
     ensures { IfOk result (λ classes. classes ≡ classes_above top.now (cuts_after top.now sorted.now)) }
 {
     let mut classes = Vec::new(alloc);
-    push_above(&mut classes, top, sorted)?;
-    Classes::keep(classes)
+    match push_above(&mut classes, top, sorted) {
+        Ok(()) => Classes::keep(classes),
+        Err(error) => {
+            drop(classes);
+            Err(error)
+        }
+    }
 }
 
 /// Adds the classes of all versions. The cuts are the first version and those that are above the one before.
@@ -148,6 +168,11 @@ pub(crate) fn classes_of_all(alloc: Global, sorted: &[TextKey]) -> Result<Classe
     ensures { IfOk result (λ classes. classes ≡ classes_of_all (cuts_of sorted.now)) }
 {
     let mut classes = Vec::new(alloc);
-    push_all(&mut classes, sorted)?;
-    Classes::keep(classes)
+    match push_all(&mut classes, sorted) {
+        Ok(()) => Classes::keep(classes),
+        Err(error) => {
+            drop(classes);
+            Err(error)
+        }
+    }
 }

@@ -91,16 +91,35 @@ impl<'a> CutFinder<'a> {
         Ok(())
     }
 
+    /// Adds the names of the members of a cluster to no names.
+    fn note_members(
+        &self,
+        members: &[u32],
+        names: &mut BTreeSet<NameKey<'a>>,
+    ) -> Result<(), AllocError>
+        requires within { All (λ number. number < length self.now.packages) members.now }
+        requires none { names.old.keys ≡ [] }
+        ensures { OnOk result (Adds [] names.new.keys (IsNameOfCluster self.now members.now)) }
+    {
+        for number in members {
+            self.note_moved(self.repo.package(*number), names)?;
+        }
+        Ok(())
+    }
+
     /// The names of the members of a cluster, each once.
     fn names_of(&self, members: &[u32]) -> Result<BTreeSet<NameKey<'a>>, AllocError>
         requires { All (λ number. number < length self.now.packages) members.now }
         ensures { IfOk result (λ names. Adds [] names.keys (IsNameOfCluster self.now members.now)) }
     {
         let mut names = BTreeSet::new(self.alloc);
-        for number in members {
-            self.note_moved(self.repo.package(*number), &mut names)?;
+        match self.note_members(members, &mut names) {
+            Ok(()) => Ok(names),
+            Err(error) => {
+                drop(names);
+                Err(error)
+            }
         }
-        Ok(names)
     }
 
     /// Adds the versions in bounds on some names.
@@ -128,7 +147,25 @@ impl<'a> CutFinder<'a> {
         ensures { OnOk result (Adds found.old.items found.new.items (IsBoundOn self.now (IsNameOfCluster self.now members.now))) }
     {
         let names = self.names_of(members)?;
-        self.collect_names(&names, found)
+        let collected = self.collect_names(&names, found);
+        drop(names);
+        collected
+    }
+
+    /// The classes of the versions above the top of a cluster, whose cuts are found into an empty list.
+    fn classes_by(
+        &self,
+        members: &[u32],
+        top: &Version,
+        found: &mut Vec<TextKey<'a>>,
+    ) -> Result<Classes, AllocError>
+        requires within { All (λ number. number < length self.now.packages) members.now }
+        requires none { found.old.items ≡ [] }
+        ensures { IfOk result (AreClassesOf self.now members.now top.now) }
+    {
+        self.collect_members(members, found)?;
+        found.sort()?;
+        classes_above(self.alloc, top, found)
     }
 
     /// The classes of the versions above the top of a cluster.
@@ -137,9 +174,9 @@ impl<'a> CutFinder<'a> {
         ensures { IfOk result (AreClassesOf self.now members.now top.now) }
     {
         let mut found = Vec::new(self.alloc);
-        self.collect_members(members, &mut found)?;
-        found.sort()?;
-        classes_above(self.alloc, top, &found)
+        let classes = self.classes_by(members, top, &mut found);
+        drop(found);
+        classes
     }
 
     /// The classes of the versions above the top of a cluster of the repository, by its number.
@@ -155,14 +192,28 @@ impl<'a> CutFinder<'a> {
         self.classes_of(clusters.members(cluster), clusters.top(cluster))
     }
 
+    /// The classes of the versions of a new name, whose cuts are found into an empty list.
+    fn classes_by_name(
+        &self,
+        name: &'a Name,
+        found: &mut Vec<TextKey<'a>>,
+    ) -> Result<Classes, AllocError>
+        requires { found.old.items ≡ [] }
+        ensures { IfOk result (AreClassesOfName self.now name.now) }
+    {
+        self.collect(name, found)?;
+        found.sort()?;
+        classes_of_all(self.alloc, found)
+    }
+
     /// The classes of the versions of a new name.
     pub fn classes_of_new_name(&self, name: &'a Name) -> Result<Classes, AllocError>
         ensures { IfOk result (AreClassesOfName self.now name.now) }
     {
         let mut found = Vec::new(self.alloc);
-        self.collect(name, &mut found)?;
-        found.sort()?;
-        classes_of_all(self.alloc, &found)
+        let classes = self.classes_by_name(name, &mut found);
+        drop(found);
+        classes
     }
 }
 
@@ -176,7 +227,10 @@ pub fn classes_of(
     requires { All (λ number. number < length repo.now.packages) members.now }
     ensures { IfOk result (AreClassesOf repo.now members.now top.now) }
 {
-    CutFinder::new(alloc, repo)?.classes_of(members, top)
+    let finder = CutFinder::new(alloc, repo)?;
+    let classes = finder.classes_of(members, top);
+    drop(finder);
+    classes
 }
 
 /// The classes of the versions of a new name. For those of many names see [`CutFinder`].
@@ -187,5 +241,8 @@ pub fn classes_of_new_name(
 ) -> Result<Classes, AllocError>
     ensures { IfOk result (AreClassesOfName repo.now name.now) }
 {
-    CutFinder::new(alloc, repo)?.classes_of_new_name(name)
+    let finder = CutFinder::new(alloc, repo)?;
+    let classes = finder.classes_of_new_name(name);
+    drop(finder);
+    classes
 }

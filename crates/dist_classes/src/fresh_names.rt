@@ -1,5 +1,5 @@
 //! The new names of a repository: those that its dependencies name and no package has or provides.
-ghost use Rattle.std.specs.Prelude.{◌≡◌, ◌<◌, ◌↔◌, ℕ, List, Any, IfOk, IsTrue, OnOk, length, slice_get, Some};
+ghost use Rattle.std.specs.Prelude.{◌≡◌, [], ◌<◌, ◌↔◌, ℕ, List, Any, IfOk, IsTrue, OnOk, length, slice_get, Some};
 ghost use Rattle.std.specs.Cmp.Lexicographic.{slice_cmp};
 ghost use Rattle.std.specs.List.Sorted.{IsStrictlySortedBy};
 ghost use Rattle.std.specs.Ordering.{nat_cmp};
@@ -95,17 +95,47 @@ fn note_items<'a>(
     Ok(())
 }
 
+/// Adds copies of names to an empty list.
+fn push_copies(copies: &mut Vec<Name>, names: &BTreeSet<NameKey>) -> Result<(), AllocError>
+    requires { copies.old.items ≡ [] }
+    ensures same { OnOk result (copies.new.items ≡ names.now.keys) }
+    ensures in_order { IsStrictlySortedBy (slice_cmp nat_cmp) names.now.keys }
+{
+    let keys = names.iter();
+    for key in keys {
+        copies.push(key.name().try_clone()?)?;
+    }
+    Ok(())
+}
+
 /// Copies of names in order.
 fn copied(alloc: Global, names: &BTreeSet<NameKey>) -> Result<Names, AllocError>
     ensures same { IfOk result (λ copies. copies ≡ names.now.keys) }
     ensures in_order { IsStrictlySortedBy (slice_cmp nat_cmp) names.now.keys }
 {
-    let keys = names.iter();
     let mut copies = Vec::new(alloc);
-    for key in keys {
-        copies.push(key.name().try_clone()?)?;
+    match push_copies(&mut copies, names) {
+        Ok(()) => Ok(Names { names: copies }),
+        Err(error) => {
+            drop(copies);
+            Err(error)
+        }
     }
-    Ok(Names { names: copies })
+}
+
+/// The new names of a repository, found into an empty set.
+fn names_by<'a>(
+    alloc: Global,
+    repo: &'a Repository,
+    names: &mut BTreeSet<NameKey<'a>>,
+) -> Result<Names, AllocError>
+    requires { names.old.keys ≡ [] }
+    ensures { IfOk result (AreNewNames repo.now) }
+{
+    for number in 0..repo.len() {
+        note_items(names, repo, &repo.package(number).depends)?;
+    }
+    copied(alloc, names)
 }
 
 /// The names that dependencies name and no package of the repository has or provides.
@@ -113,8 +143,7 @@ pub fn new_names(alloc: Global, repo: &Repository) -> Result<Names, AllocError>
     ensures { IfOk result (AreNewNames repo.now) }
 {
     let mut names = BTreeSet::new(alloc);
-    for number in 0..repo.len() {
-        note_items(&mut names, repo, &repo.package(number).depends)?;
-    }
-    copied(alloc, &names)
+    let found = names_by(alloc, repo, &mut names);
+    drop(names);
+    found
 }

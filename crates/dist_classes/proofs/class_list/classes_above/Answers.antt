@@ -13,5 +13,5 @@ keep-requires c =
       top = top;
       cuts = cuts_after top sorted;
       rising = cuts-rise top sorted;
-      are = c.in_ok-push_above.ensures ∙ ap (λ (classes : List Class). classes ++ classes_above top (cuts_after top sorted)) c.new-classes.ensures.items;
+      are = c.in-Ok.ensures ∙ ap (λ (classes : List Class). classes ++ classes_above top (cuts_after top sorted)) c.new-classes.ensures.items;
     })

@@ -11,5 +11,5 @@ keep-requires c =
     inr (record {
       cuts = cuts_of sorted;
       rising = all-rise sorted;
-      are = c.in_ok-push_all.ensures ∙ ap (λ (classes : List Class). classes ++ classes_of_all (cuts_of sorted)) c.new-classes.ensures.items;
+      are = c.in-Ok.ensures ∙ ap (λ (classes : List Class). classes ++ classes_of_all (cuts_of sorted)) c.new-classes.ensures.items;
     })

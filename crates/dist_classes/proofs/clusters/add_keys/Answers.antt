@@ -1,4 +1,4 @@
-use Rattle.dist_classes.proofs.clusters.keys_of.Goals as goal
+use Rattle.dist_classes.proofs.clusters.add_keys.Goals as goal
 use Rattle.std.proofs.Common.{◌≡◌, ◌++◌, ◌∷◌, ◌+◌, [], ℕ, List, Some, map, take, get_or, slice_get, sym, ap, ◌∙◌}
 use Rattle.std.proofs.lemmas.List.{map_more}
 use Rattle.std.proofs.lemmas.Option.{get_or_from_slice_get, slice_get_within}

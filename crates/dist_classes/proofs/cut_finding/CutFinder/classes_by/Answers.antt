@@ -7,7 +7,7 @@ use Rattle.dist_classes.specs.Cuts.{IsNameOfCluster}
 use Rattle.dist_classes.specs.SortedPrivate.{cuts_after}
 use Rattle.dist_classes.specs.Table.{Adds}
 use Rattle.dist_classes.proofs.FoundCuts.{cluster-classes}
-use Rattle.dist_classes.proofs.cut_finding.CutFinder.classes_of.Goals as goal
+use Rattle.dist_classes.proofs.cut_finding.CutFinder.classes_by.Goals as goal
 
 pub returns : goal.returns
 returns c =
@@ -16,7 +16,7 @@ returns c =
     let found = c.collect_members.new.found.items in
     let sorted = c.sort.new.self.items in
     let From : List (List ℕ) → Type 0 = λ old. Adds old found (IsBoundOn r (IsNameOfCluster r c.args.members.now)) in
-    let adds = subst From c.new-found.ensures.items c.in_ok-collect_members.ensures in
+    let adds = subst From c.requires.none c.in_ok-collect_members.ensures in
     IfOk-weaker c.classes_above.result (λ classes. classes ≡ classes_above top (cuts_after top c.deref.result.now)) (AreClassesOf r c.args.members.now top)
     (λ classes is. cluster-classes r c.args.members.now top found sorted classes adds c.in_ok-sort.ensures.permutation c.in_ok-sort.ensures.sorted
     (is ∙ ap (λ (texts : List (List ℕ)). classes_above top (cuts_after top texts)) c.deref.ensures.value)) c.classes_above.ensures

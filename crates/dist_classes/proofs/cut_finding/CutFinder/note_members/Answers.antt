@@ -6,18 +6,18 @@ use Rattle.dist_repo.specs.declared.package.Package.{Package}
 use Rattle.dist_classes.specs.Table.{Adds}
 use Rattle.dist_classes.proofs.FoundCuts.{IsNameOf, member-named}
 use Rattle.dist_classes.proofs.FreshLemmas.{adds-none, adds-more, adds-whole}
-use Rattle.dist_classes.proofs.cut_finding.CutFinder.names_of.Goals as goal
+use Rattle.dist_classes.proofs.cut_finding.CutFinder.note_members.Goals as goal
 
 pub package-requires : goal.package-requires
 package-requires c =
     let number = get_or c.args.members.now c.loop-number.number-index 0 in
     let Within : PackageList → Type 0 = λ r. number < length r.packages in
-    subst Within (sym c.self.view_is) (c.requires c.loop-number.number-index 0 c.loop-number-test.true)
+    subst Within (sym c.self.view_is) (c.requires.within c.loop-number.number-index 0 c.loop-number-test.true)
 
 pub loop-number-init : goal.loop-number-init
 loop-number-init c =
     let members = c.args.members.now in
-    subst (λ (keys : List (List ℕ)). Adds [] keys (λ n. Any (IsNameOf c.args.self.now n) (take 0 members))) (sym c.new-names.ensures.empty)
+    subst (λ (keys : List (List ℕ)). Adds [] keys (λ n. Any (IsNameOf c.args.self.now n) (take 0 members))) (sym c.requires.none)
     (adds-none (IsNameOf c.args.self.now) [] members)
 
 pub loop-number-preserved : goal.loop-number-preserved

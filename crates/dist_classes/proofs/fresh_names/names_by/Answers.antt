@@ -1,9 +1,17 @@
-use Rattle.std.proofs.Common.{◌≡◌, ℕ, List, [], arith, sym, subst}
+use Rattle.std.proofs.Common.{◌≡◌, ℕ, List, [], take, arith, sym, subst}
+use Rattle.std.specs.Prelude.{Any}
 use Rattle.std.proofs.lemmas.Result.{IfOk-weaker}
 use Rattle.dist_repo.specs.declared.package.Package.{Package}
 use Rattle.dist_classes.specs.NewNames.{AreNewNames}
-use Rattle.dist_classes.proofs.FreshLemmas.{HasFresh, adds-more, adds-whole, names-from}
-use Rattle.dist_classes.proofs.fresh_names.new_names.Goals as goal
+use Rattle.dist_classes.specs.Table.{Adds}
+use Rattle.dist_classes.proofs.FreshLemmas.{HasFresh, adds-more, adds-none, adds-whole, names-from}
+use Rattle.dist_classes.proofs.fresh_names.names_by.Goals as goal
+
+pub loop-number-init : goal.loop-number-init
+loop-number-init c =
+    let packages = c.args.repo.now.packages in
+    let P : List ℕ → Package → Type 0 = λ q p. HasFresh c.args.repo.now q p in
+    subst (λ (keys : List (List ℕ)). Adds [] keys (λ q. Any (P q) (take 0 packages))) (sym c.requires) (adds-none P [] packages)
 
 pub loop-number-preserved : goal.loop-number-preserved
 loop-number-preserved c =

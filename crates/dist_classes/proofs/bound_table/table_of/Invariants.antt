@@ -1,7 +1,0 @@
-use Rattle.std.proofs.Common.{take, []}
-use Rattle.std.specs.Prelude.{Any}
-use Rattle.dist_classes.specs.Table.{IsPackageBound, Notes}
-use Rattle.dist_classes.proofs.bound_table.table_of.Given as goal
-
-abbrev pub invariant-loop-number : goal.invariant-loop-number
-invariant-loop-number l = Notes [] l.table (λ q v. Any (IsPackageBound l.repo.architecture q v) (take l.number l.repo.packages))
