@@ -1,10 +1,10 @@
 //! Texts, and what is read of them.
+use crate::hold;
 use dist_control::{
     ControlError, Field, Stanza, Stanzas, one_list_or_fault, one_reading_or_fault, split_line,
     trimmed, values_take_bytes,
 };
 use std::alloc::{AllocError, Global};
-use std::process::Abort;
 
 /// How many stanzas a text has, or its first fault.
 type Counted = Result<usize, ControlError>;
@@ -13,14 +13,14 @@ type Counted = Result<usize, ControlError>;
 fn count(alloc: Global, text: &[u8]) -> Counted {
     let mut stanzas = Stanzas::new(text);
     for read in 0..text.len() {
-        if stanzas.next(alloc)?.is_none() {
+        if next_line(alloc, &mut stanzas)?.is_none() {
             return Ok(read);
         }
     }
     Ok(text.len())
 }
 
-const FAULTY: [(&str, Counted); 14] = [
+const FAULTY: &[(&str, Counted)] = &[
     (
         "Package: a\nVersion: 1\nDescription\n",
         Err(ControlError::NoColon(3)),
@@ -46,7 +46,7 @@ const FAULTY: [(&str, Counted); 14] = [
     ("A: x\na\nA: y\n", Err(ControlError::NoColon(2))),
 ];
 
-const SOUND: [(&str, Counted); 5] = [
+const SOUND: &[(&str, Counted)] = &[
     ("", Ok(0)),
     ("\n \n\t\n", Ok(0)),
     ("A:", Ok(1)),
@@ -54,16 +54,20 @@ const SOUND: [(&str, Counted); 5] = [
     ("A: x\n \t\nA: y\n\n\n", Ok(2)),
 ];
 
-fn hold_counts(rt: &(impl Abort + AllocGlobal), rows: &[(&str, Counted)]) {
+/// The first text with other stanzas or another fault.
+fn wrong_count(alloc: Global, rows: &[(&'static str, Counted)]) -> Option<&'static str> {
     for (text, comes) in rows {
-        assert_eq!(rt; count(rt.alloc(), text.as_bytes()), *comes, "{text:?}");
+        if count(alloc, text.as_bytes()) != *comes {
+            return Some(text);
+        }
     }
+    None
 }
 
 #[test]
 fn faults_with_their_lines(rt: HostRuntime) {
-    hold_counts(&rt, &FAULTY);
-    hold_counts(&rt, &SOUND);
+    hold(&rt, wrong_count(rt.alloc(), FAULTY));
+    hold(&rt, wrong_count(rt.alloc(), SOUND));
 }
 
 const TWO_STANZAS: &str =
@@ -72,7 +76,7 @@ const TWO_STANZAS: &str =
 /// The place of a stanza, a name, and the value of the field of that name and its line, where there is one.
 type Named = (u32, &'static str, Option<(&'static str, u64)>);
 
-const NAMED: [Named; 5] = [
+const NAMED: &[Named] = &[
     (0, "Package", Some(("python3", 2))),
     (
         0,
@@ -91,13 +95,13 @@ const NAMED: [Named; 5] = [
 /// The place of a stanza, its line, and the names of its fields.
 type Shape = (u32, u64, &'static [&'static str]);
 
-const SHAPES: [Shape; 2] = [(0, 2, &["Package", "Depends", "Empty"]), (1, 7, &["Tag"])];
+const SHAPES: &[Shape] = &[(0, 2, &["Package", "Depends", "Empty"]), (1, 7, &["Tag"])];
 
 /// The stanza at a place of a text, from 0.
 fn stanza_at(alloc: Global, text: &str, place: u32) -> Option<Stanza<'_>> {
     let mut stanzas = Stanzas::new(text.as_bytes());
     for _ in 0..place {
-        let _before = stanzas.next(alloc).ok()?;
+        let _line = next_line(alloc, &mut stanzas).ok()?;
     }
     stanzas.next(alloc).ok()?
 }
@@ -114,10 +118,15 @@ fn is_field(field: Option<&Field<'_>>, expected: Option<(&str, u64)>) -> bool {
 }
 
 /// Whether the field of a row is as it says.
-fn is_named(alloc: Global, row: &Named) -> Option<bool> {
-    let (place, name, expected) = *row;
-    let stanza = stanza_at(alloc, TWO_STANZAS, place)?;
-    Some(is_field(stanza.get(name.as_bytes()), expected))
+fn is_named(alloc: Global, row: &Named) -> bool {
+    match stanza_at(alloc, TWO_STANZAS, row.0) {
+        Some(stanza) => {
+            let so = is_field(stanza.get(row.1.as_bytes()), row.2);
+            drop(stanza);
+            so
+        }
+        None => false,
+    }
 }
 
 /// Whether a stanza has exactly these fields.
@@ -134,36 +143,49 @@ fn has_names(stanza: &Stanza<'_>, names: &[&str]) -> bool {
 }
 
 /// Whether the stanza of a row is as it says.
-fn is_shaped(alloc: Global, row: &Shape) -> Option<bool> {
-    let (place, line, names) = *row;
-    let stanza = stanza_at(alloc, TWO_STANZAS, place)?;
-    Some(stanza.line == line && has_names(&stanza, names))
-}
-
-fn hold_named(rt: &(impl Abort + AllocGlobal), rows: &[Named]) {
-    for row in rows {
-        assert_eq!(rt; is_named(rt.alloc(), row), Some(true), "{}", row.1);
+fn is_shaped(alloc: Global, row: &Shape) -> bool {
+    match stanza_at(alloc, TWO_STANZAS, row.0) {
+        Some(stanza) => {
+            let so = stanza.line == row.1 && has_names(&stanza, row.2);
+            drop(stanza);
+            so
+        }
+        None => false,
     }
 }
 
-fn hold_shapes(rt: &(impl Abort + AllocGlobal), rows: &[Shape]) {
+/// The first name whose field is another one.
+fn wrong_field(alloc: Global, rows: &[Named]) -> Option<&'static str> {
     for row in rows {
-        assert_eq!(rt; is_shaped(rt.alloc(), row), Some(true), "stanza {}", row.0);
+        if !is_named(alloc, row) {
+            return Some(row.1);
+        }
     }
+    None
+}
+
+/// Whether the stanza of each row is as it says.
+fn are_shaped(alloc: Global, rows: &[Shape]) -> bool {
+    for row in rows {
+        if !is_shaped(alloc, row) {
+            return false;
+        }
+    }
+    true
 }
 
 #[test]
 fn fields_of_a_stanza(rt: HostRuntime) {
-    hold_shapes(&rt, &SHAPES);
-    hold_named(&rt, &NAMED);
+    assert!(rt; are_shaped(rt.alloc(), SHAPES));
+    hold(&rt, wrong_field(rt.alloc(), NAMED));
 }
 
 /// Whether a stanza is said to be left, and then the line of the next one, or a fault.
 type Step = (bool, Result<Option<u64>, ControlError>);
 
-const TO_THE_END: [Step; 3] = [(true, Ok(Some(2))), (true, Ok(Some(7))), (false, Ok(None))];
+const TO_THE_END: &[Step] = &[(true, Ok(Some(2))), (true, Ok(Some(7))), (false, Ok(None))];
 
-const FAULT_AT_SECOND: [Step; 3] = [
+const FAULT_AT_SECOND: &[Step] = &[
     (true, Ok(Some(1))),
     (true, Err(ControlError::NoColon(3))),
     (false, Ok(None)),
@@ -171,94 +193,115 @@ const FAULT_AT_SECOND: [Step; 3] = [
 
 /// The line of the next stanza.
 fn next_line(alloc: Global, stanzas: &mut Stanzas<'_>) -> Result<Option<u64>, ControlError> {
-    match stanzas.next(alloc)? {
-        Some(stanza) => Ok(Some(stanza.line)),
-        None => Ok(None),
+    match stanzas.next(alloc) {
+        Ok(Some(stanza)) => {
+            let line = stanza.line;
+            drop(stanza);
+            Ok(Some(line))
+        }
+        Ok(None) => Ok(None),
+        Err(error) => Err(error),
     }
 }
 
-fn hold_steps(rt: &(impl Abort + AllocGlobal), text: &str, steps: &[Step]) {
+/// Whether the stanzas of a text come in these steps.
+fn come(alloc: Global, text: &str, steps: &[Step]) -> bool {
     let mut stanzas = Stanzas::new(text.as_bytes());
     for (has_next, comes) in steps {
-        assert_eq!(rt; stanzas.has_next(), *has_next, "{text:?}");
-        assert_eq!(rt; next_line(rt.alloc(), &mut stanzas), *comes, "{text:?}");
+        if stanzas.has_next() != *has_next || next_line(alloc, &mut stanzas) != *comes {
+            return false;
+        }
     }
+    true
 }
 
 #[test]
 fn stanzas_to_the_end(rt: HostRuntime) {
-    hold_steps(&rt, TWO_STANZAS, &TO_THE_END);
+    assert!(rt; come(rt.alloc(), TWO_STANZAS, TO_THE_END));
 }
 
 #[test]
 fn a_refusal_is_for_good(rt: HostRuntime) {
-    hold_steps(&rt, "A: x\n\nB\n\nC: z\n", &FAULT_AT_SECOND);
+    assert!(rt; come(rt.alloc(), "A: x\n\nB\n\nC: z\n", FAULT_AT_SECOND));
 }
 
 #[test]
 fn a_line_is_split_off(rt: HostRuntime) {
     let (line, rest) = split_line(b"a\nb");
-    assert_eq!(rt; line, b"a".as_slice());
-    assert_eq!(rt; rest, b"b".as_slice());
+    assert!(rt; line == b"a".as_slice() && rest == b"b".as_slice());
 }
 
-/// A text of many bytes `a` but for its front.
-fn long(alloc: Global, front: &str) -> Result<Vec<u8>, AllocError> {
-    let mut text = Vec::new(alloc);
+/// Makes a text of many bytes `a` but for its front.
+fn lengthen(text: &mut Vec<u8>, front: &str) -> Result<(), AllocError> {
     text.extend_from_slice(front.as_bytes())?;
-    text.resize(1_048_576, b'a')?;
-    Ok(text)
+    text.resize(1_048_576, b'a')
 }
 
-/// Fields of 2000 different names, one a line, and what comes behind them.
-fn many_fields(alloc: Global, behind: &str) -> Result<String, AllocError> {
-    let mut text = String::new(alloc);
+/// Adds fields of 2000 different names, one a line, and what comes behind them.
+fn push_fields(text: &mut String, behind: &str) -> Result<(), AllocError> {
     for number in 0..2000 {
         writeln!(text, "N{number}: v")?;
     }
-    text.push_str(behind)?;
-    Ok(text)
+    text.push_str(behind)
 }
 
-/// The stanzas of a long text with this front.
-fn count_long(alloc: Global, front: &str) -> Option<Counted> {
-    let text = long(alloc, front).ok()?;
-    Some(count(alloc, text.as_slice()))
+/// A front or what comes behind, and the stanzas.
+type Long = (&'static str, Counted);
+
+const LONG: &[Long] = &[("", Err(ControlError::NoColon(1))), ("Tag: ", Ok(1))];
+
+const MANY: &[Long] = &[
+    ("", Ok(1)),
+    ("n1999: w\n", Err(ControlError::DoubleField(2001))),
+];
+
+/// Whether a long text with the front of a row has its stanzas.
+fn is_counted_long(alloc: Global, row: &Long) -> bool {
+    let mut text = Vec::new(alloc);
+    let so = lengthen(&mut text, row.0).is_ok() && count(alloc, text.as_slice()) == row.1;
+    drop(text);
+    so
 }
 
-/// The stanzas of many fields and what comes behind them.
-fn count_many(alloc: Global, behind: &str) -> Option<Counted> {
-    let text = many_fields(alloc, behind).ok()?;
-    Some(count(alloc, text.as_bytes()))
+/// Whether many fields, and what comes behind them in a row, have its stanzas.
+fn is_counted_many(alloc: Global, row: &Long) -> bool {
+    let mut text = String::new(alloc);
+    let so = push_fields(&mut text, row.0).is_ok() && count(alloc, text.as_bytes()) == row.1;
+    drop(text);
+    so
 }
 
 #[test]
 fn long_lines_and_many_fields(rt: HostRuntime) {
-    let alloc = rt.alloc();
-    assert_eq!(rt; count_long(alloc, ""), Some(Err(ControlError::NoColon(1))));
-    assert_eq!(rt; count_long(alloc, "Tag: "), Some(Ok(1)));
-    assert_eq!(rt; count_many(alloc, ""), Some(Ok(1)));
-    let double = Some(Err(ControlError::DoubleField(2001)));
-    assert_eq!(rt; count_many(alloc, "n1999: w\n"), double);
+    for row in LONG {
+        assert!(rt; is_counted_long(rt.alloc(), row));
+    }
+    for row in MANY {
+        assert!(rt; is_counted_many(rt.alloc(), row));
+    }
 }
 
 /// Values, and what is left of them without white space at both ends.
-const TRIMMED: [(&str, &str); 4] = [
+const TRIMMED: &[(&str, &str)] = &[
     (" a b\n", "a b"),
     ("\t a\n b \n", "a\n b"),
     (" \t\n", ""),
     ("a", "a"),
 ];
 
-fn hold_trimmed(rt: &impl Abort, rows: &[(&str, &str)]) {
+/// The first value of which something else is left.
+fn wrong_trim(rows: &[(&'static str, &'static str)]) -> Option<&'static str> {
     for (text, value) in rows {
-        assert!(rt; trimmed(text.as_bytes()) == value.as_bytes(), "{text:?}");
+        if trimmed(text.as_bytes()) != value.as_bytes() {
+            return Some(text);
+        }
     }
+    None
 }
 
 #[test]
 fn values_are_trimmed(rt: HostRuntime) {
-    hold_trimmed(&rt, &TRIMMED);
+    hold(&rt, wrong_trim(TRIMMED));
 }
 
 #[test]

@@ -1,16 +1,16 @@
 //! Values from outside: the order as `dpkg --compare-versions` answers it (1.21.22), and refusals by the grammar.
+use crate::hold;
 use dist_version::{
     Version, VersionError, equal_is_neither_below, order_is_total, rebuilds_are_taken_off,
     texts_are_exact, versions_are_dense, weights_decide,
 };
 use std::alloc::Global;
 use std::cmp::Ordering;
-use std::process::Abort;
 
 /// Two versions, and the order of the first to the second.
 type Pair = (&'static str, Ordering, &'static str);
 
-const ORDER: [Pair; 89] = [
+const ORDER: &[Pair] = &[
     ("1.0~~", Ordering::Less, "1.0~"),
     ("1.0~", Ordering::Less, "1.0"),
     ("1.0", Ordering::Equal, "1.0-0"),
@@ -123,30 +123,39 @@ fn agreed_order(first: &Version, second: &Version) -> Option<Ordering> {
 
 /// The order of a version to that of a text, where both ways agree.
 fn order_to(alloc: Global, first: &Version, second: &str) -> Option<Ordering> {
-    agreed_order(first, &read(alloc, second)?)
+    let second = read(alloc, second)?;
+    let order = agreed_order(first, &second);
+    drop(second);
+    order
 }
 
 /// The order of the versions of two texts, where both ways agree.
 fn order_of(alloc: Global, first: &str, second: &str) -> Option<Ordering> {
-    order_to(alloc, &read(alloc, first)?, second)
+    let first = read(alloc, first)?;
+    let order = order_to(alloc, &first, second);
+    drop(first);
+    order
 }
 
-fn hold_order(rt: &(impl Abort + AllocGlobal), pairs: &[Pair]) {
+/// The first of the pair that is not in its order.
+fn wrong_order(alloc: Global, pairs: &[Pair]) -> Option<&'static str> {
     for (first, order, second) in pairs {
-        let found = order_of(rt.alloc(), first, second);
-        assert_eq!(rt; found, Some(*order), "{first} and {second}");
+        if order_of(alloc, first, second) != Some(*order) {
+            return Some(first);
+        }
     }
+    None
 }
 
 #[test]
 fn compares_as_dpkg_does(rt: HostRuntime) {
-    hold_order(&rt, &ORDER);
+    hold(&rt, wrong_order(rt.alloc(), ORDER));
 }
 
 /// A text, and its first fault.
 type Faulty = (&'static str, VersionError);
 
-const FAULTY: [Faulty; 22] = [
+const FAULTY: &[Faulty] = &[
     ("", VersionError::Empty),
     (":", VersionError::BadEpoch),
     (":1", VersionError::BadEpoch),
@@ -173,90 +182,136 @@ const FAULTY: [Faulty; 22] = [
 
 /// The first fault of a text.
 fn refusal_of(alloc: Global, text: &str) -> Option<VersionError> {
-    Version::read(alloc, text.as_bytes()).err()
+    match Version::read(alloc, text.as_bytes()) {
+        Ok(version) => {
+            drop(version);
+            None
+        }
+        Err(error) => Some(error),
+    }
 }
 
-fn hold_faults(rt: &(impl Abort + AllocGlobal), rows: &[Faulty]) {
+/// The first text that has another fault.
+fn wrong_fault(alloc: Global, rows: &[Faulty]) -> Option<&'static str> {
     for (text, fault) in rows {
-        assert_eq!(rt; refusal_of(rt.alloc(), text), Some(*fault), "{text}");
+        if refusal_of(alloc, text) != Some(*fault) {
+            return Some(text);
+        }
     }
+    None
 }
 
 #[test]
 fn refuses_by_the_first_fault(rt: HostRuntime) {
-    hold_faults(&rt, &FAULTY);
+    hold(&rt, wrong_fault(rt.alloc(), FAULTY));
 }
 
 /// A text, and its epoch, its upstream version and its revision, where it has one.
 type Spelled = (&'static str, u32, &'static str, Option<&'static str>);
 
-const SPELLED: [Spelled; 2] = [
+const SPELLED: &[Spelled] = &[
     ("02147483647:1:0-1-3+b1", 2147483647, "1:0-1", Some("3+b1")),
     ("~", 0, "~", None),
 ];
 
+/// Whether a revision is this one, where there is one.
+fn is_revision(revision: Option<&[u8]>, expected: Option<&str>) -> bool {
+    match (revision, expected) {
+        (Some(revision), Some(expected)) => revision == expected.as_bytes(),
+        (None, None) => true,
+        _ => false,
+    }
+}
+
 /// Whether a version has a row's text and parts.
 fn is_spelled(version: &Version, row: &Spelled) -> bool {
-    let (text, epoch, upstream, revision) = *row;
-    version.text() == text.as_bytes()
-        && version.epoch() == epoch
-        && version.upstream() == upstream.as_bytes()
-        && version.revision().is_some() == revision.is_some()
-        && version.revision().unwrap_or(b"") == revision.unwrap_or("").as_bytes()
+    version.text() == row.0.as_bytes()
+        && version.epoch() == row.1
+        && version.upstream() == row.2.as_bytes()
+        && is_revision(version.revision(), row.3)
+}
+
+/// Whether a version and another one have a row's text and parts, and are one in both orders.
+fn are_one(version: &Version, copy: &Version, row: &Spelled) -> bool {
+    is_spelled(version, row)
+        && is_spelled(copy, row)
+        && *copy == *version
+        && copy.compare(version) == Ordering::Equal
 }
 
 /// Whether a version and its copy have a row's text and parts, and are one in both orders.
-fn is_kept(version: &Version, row: &Spelled) -> Option<bool> {
-    let copy = version.try_clone().ok()?;
-    Some(
-        is_spelled(version, row)
-            && is_spelled(&copy, row)
-            && copy == *version
-            && copy.compare(version) == Ordering::Equal,
-    )
+fn is_kept(version: &Version, row: &Spelled) -> bool {
+    match version.try_clone() {
+        Ok(copy) => {
+            let so = are_one(version, &copy, row);
+            drop(copy);
+            so
+        }
+        Err(_) => false,
+    }
 }
 
 /// Whether the version of a row's text is as the row says.
-fn is_read(alloc: Global, row: &Spelled) -> Option<bool> {
-    is_kept(&read(alloc, row.0)?, row)
+fn is_read(alloc: Global, row: &Spelled) -> bool {
+    match read(alloc, row.0) {
+        Some(version) => {
+            let so = is_kept(&version, row);
+            drop(version);
+            so
+        }
+        None => false,
+    }
 }
 
-fn hold_spelled(rt: &(impl Abort + AllocGlobal), rows: &[Spelled]) {
+/// The first text that is read otherwise.
+fn wrong_reading(alloc: Global, rows: &[Spelled]) -> Option<&'static str> {
     for row in rows {
-        assert_eq!(rt; is_read(rt.alloc(), row), Some(true), "{}", row.0);
+        if !is_read(alloc, row) {
+            return Some(row.0);
+        }
     }
+    None
 }
 
 #[test]
 fn keeps_text_and_parts(rt: HostRuntime) {
-    hold_spelled(&rt, &SPELLED);
+    hold(&rt, wrong_reading(rt.alloc(), SPELLED));
 }
 
 /// Two texts, and whether they are the same bytes.
 type Same = (&'static str, &'static str, bool);
 
-const SAME: [Same; 2] = [("1.0", "1.0", true), ("1.0", "1.0-0", false)];
+const SAME: &[Same] = &[("1.0", "1.0", true), ("1.0", "1.0-0", false)];
 
 /// Whether a version has the same text as that of a text.
 fn is_same(alloc: Global, first: &Version, second: &str) -> Option<bool> {
-    Some(*first == read(alloc, second)?)
+    let second = read(alloc, second)?;
+    let same = *first == second;
+    drop(second);
+    Some(same)
 }
 
 /// Whether the versions of two texts have the same text.
 fn are_same(alloc: Global, first: &str, second: &str) -> Option<bool> {
-    is_same(alloc, &read(alloc, first)?, second)
+    let first = read(alloc, first)?;
+    let same = is_same(alloc, &first, second);
+    drop(first);
+    same
 }
 
-fn hold_same(rt: &(impl Abort + AllocGlobal), rows: &[Same]) {
+/// The second of the first two that are told otherwise.
+fn wrong_sameness(alloc: Global, rows: &[Same]) -> Option<&'static str> {
     for (first, second, same) in rows {
-        let found = are_same(rt.alloc(), first, second);
-        assert_eq!(rt; found, Some(*same), "{first} and {second}");
+        if are_same(alloc, first, second) != Some(*same) {
+            return Some(second);
+        }
     }
+    None
 }
 
 #[test]
 fn equal_texts_are_the_same_bytes(rt: HostRuntime) {
-    hold_same(&rt, &SAME);
+    hold(&rt, wrong_sameness(rt.alloc(), SAME));
 }
 
 /// How a version is made of another one.
@@ -270,14 +325,14 @@ enum Way {
 /// A version's text, a way, and the text of the version that is made, where one is.
 type Made = (&'static str, Way, Option<&'static str>);
 
-const BETWEEN: [Made; 4] = [
+const BETWEEN: &[Made] = &[
     ("1", Way::After(4), Some("1-0A~~~~")),
     ("1-0A", Way::After(4), Some("1-0A0A~~~~")),
     ("1", Way::After(usize::MAX), None),
     ("1", Way::Below, Some("~~")),
 ];
 
-const REBUILDS: [Made; 3] = [
+const REBUILDS: &[Made] = &[
     ("1-2+b3", Way::WithoutRebuild, Some("1-2")),
     ("1+b2+b3", Way::WithoutRebuild, Some("1+b2")),
     ("1+b", Way::WithoutRebuild, Some("1+b")),
@@ -292,35 +347,56 @@ fn made(version: &Version, way: Way) -> Option<Version> {
     }
 }
 
-/// Whether a version has this text, or is missing where none is given.
-fn has_text(version: &Option<Version>, text: Option<&str>) -> bool {
-    match (version, text) {
-        (Some(version), Some(text)) => version.text() == text.as_bytes(),
-        (None, None) => true,
-        _ => false,
+/// Whether a version is given, and has this text.
+fn has_text(version: &Version, text: Option<&str>) -> bool {
+    match text {
+        Some(text) => version.text() == text.as_bytes(),
+        None => false,
+    }
+}
+
+/// Whether what is made of a version is as a row says.
+fn makes(version: &Version, row: &Made) -> bool {
+    match made(version, row.1) {
+        Some(other) => {
+            let so = has_text(&other, row.2);
+            drop(other);
+            so
+        }
+        None => row.2.is_none(),
     }
 }
 
 /// Whether what is made of the version of a row's text is as the row says.
-fn is_made(alloc: Global, row: &Made) -> Option<bool> {
-    let (text, way, expected) = *row;
-    Some(has_text(&made(&read(alloc, text)?, way), expected))
+fn is_made(alloc: Global, row: &Made) -> bool {
+    match read(alloc, row.0) {
+        Some(version) => {
+            let so = makes(&version, row);
+            drop(version);
+            so
+        }
+        None => false,
+    }
 }
 
-fn hold_made(rt: &(impl Abort + AllocGlobal), rows: &[Made]) {
+/// The first text of whose version another one is made.
+fn wrong_making(alloc: Global, rows: &[Made]) -> Option<&'static str> {
     for row in rows {
-        assert_eq!(rt; is_made(rt.alloc(), row), Some(true), "{}", row.0);
+        if !is_made(alloc, row) {
+            return Some(row.0);
+        }
     }
+    None
 }
 
 #[test]
 fn finds_versions_in_between(rt: HostRuntime) {
-    hold_made(&rt, &BETWEEN);
+    hold(&rt, wrong_making(rt.alloc(), BETWEEN));
 }
 
 #[test]
 fn takes_rebuilds_off(rt: HostRuntime) {
-    hold_made(&rt, &REBUILDS);
+    hold(&rt, wrong_making(rt.alloc(), REBUILDS));
 }
 
 #[test]
