@@ -1,5 +1,5 @@
 //! The entries of Provides of each package in the order of their names, so that those of one name are found by halving.
-ghost use Rattle.std.specs.Prelude.{◌≡◌, ◌<◌, ◌≤◌, ◌^◌, ◌↔◌, ℕ, Contains, IfOk, OnOk, length};
+ghost use Rattle.std.specs.Prelude.{◌≡◌, ◌<◌, ◌≤◌, ◌^◌, ◌↔◌, ℕ, Contains, IfOk, OnOk, [], length};
 ghost use Rattle.std.specs.List.{slice_range};
 ghost use Rattle.std.specs.Cmp.Lexicographic.{slice_cmp};
 ghost use Rattle.std.specs.Ordering.{is_le, is_lt, nat_cmp};
@@ -65,17 +65,37 @@ fn write_order(provides: &Provides, places: &mut Vec<u32>) -> Result<(), AllocEr
     Ok(())
 }
 
+/// Adds the entries of each package in the order of their names to an empty list, with a list for those of one package.
+fn push_orders(
+    frame: &Frame,
+    places: &mut Vec<u32>,
+    orders: &mut Flat<u32>,
+) -> Result<(), AllocError>
+    requires { orders.old ≡ [] }
+    ensures { OnOk result (AreEntryOrders frame.now.repository.packages orders.new) }
+{
+    for number in 0..frame.package_count() {
+        write_order(&frame.package(number).provides, places)?;
+        orders.push(places)?;
+    }
+    Ok(())
+}
+
 /// The entries of each package in the order of their names.
 pub(crate) fn entry_orders(alloc: Global, frame: &Frame) -> Result<Flat<u32>, AllocError>
     ensures { IfOk result (AreEntryOrders frame.now.repository.packages) }
 {
     let mut orders = Flat::new(alloc);
     let mut places = Vec::new(alloc);
-    for number in 0..frame.package_count() {
-        write_order(&frame.package(number).provides, &mut places)?;
-        orders.push(&places)?;
+    let pushed = push_orders(frame, &mut places, &mut orders);
+    drop(places);
+    match pushed {
+        Ok(()) => Ok(orders),
+        Err(error) => {
+            drop(orders);
+            Err(error)
+        }
     }
-    Ok(orders)
 }
 
 /// Where the places of the entries of a name begin among places in order, and where they end.

@@ -1,5 +1,5 @@
 //! Classes with an example of each, which is made once.
-ghost use Rattle.std.specs.Prelude.{◌≡◌, ◌<◌, ◌^◌, IfOk, length};
+ghost use Rattle.std.specs.Prelude.{◌≡◌, ◌<◌, ◌^◌, IfOk, OnOk, [], length};
 ghost use Rattle.dist_space.specs.Kept.{AreExampled, AreExamples};
 ghost use Rattle.dist_space.specs.Space.{example_at};
 
@@ -27,19 +27,38 @@ impl Model for Exampled {
     ghost invariant = { λ e. AreExamples e.classes e.examples.items };
 }
 
-/// An example of each class.
-fn examples_of(alloc: Global, classes: &Classes) -> Result<Vec<Version>, AllocError>
-    requires { length classes.now < 2 ^ 32 }
-    ensures { IfOk result (λ examples. AreExamples classes.now examples.items) }
+/// Adds an example of each class to an empty list.
+fn push_examples(
+    alloc: Global,
+    classes: &Classes,
+    examples: &mut Vec<Version>,
+) -> Result<(), AllocError>
+    requires few { length classes.now < 2 ^ 32 }
+    requires none { examples.old.items ≡ [] }
+    ensures { OnOk result (AreExamples classes.now examples.new.items) }
 {
-    let mut examples = Vec::new(alloc);
     for place in 0..classes.len() {
         let version = example(alloc, classes.get(place))?;
         // What this call tells is that the text is a version's.
         let _text = version.text();
         examples.push(version)?;
     }
-    Ok(examples)
+    Ok(())
+}
+
+/// An example of each class.
+fn examples_of(alloc: Global, classes: &Classes) -> Result<Vec<Version>, AllocError>
+    requires { length classes.now < 2 ^ 32 }
+    ensures { IfOk result (λ examples. AreExamples classes.now examples.items) }
+{
+    let mut examples = Vec::new(alloc);
+    match push_examples(alloc, classes, &mut examples) {
+        Ok(()) => Ok(examples),
+        Err(error) => {
+            drop(examples);
+            Err(error)
+        }
+    }
 }
 
 impl Exampled {
@@ -49,10 +68,16 @@ impl Exampled {
         ensures each { IfOk result AreExampled }
     {
         if classes.len() > u32::MAX as usize {
+            drop(classes);
             return Err(AllocError);
         }
-        let examples = examples_of(alloc, &classes)?;
-        Ok(Exampled { classes, examples })
+        match examples_of(alloc, &classes) {
+            Ok(examples) => Ok(Exampled { classes, examples }),
+            Err(error) => {
+                drop(classes);
+                Err(error)
+            }
+        }
     }
 
     /// The classes alone.

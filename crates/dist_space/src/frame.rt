@@ -1,5 +1,5 @@
 //! The clusters, classes and new names of a repository.
-ghost use Rattle.std.specs.Prelude.{◌≡◌, ◌≤◌, ◌<◌, ◌↔◌, ◌^◌, ℕ, [], All, Any, Contains, IfOk, IsTrue, Some, length, slice_get, slice_index, slice_index_or};
+ghost use Rattle.std.specs.Prelude.{◌≡◌, ◌≤◌, ◌<◌, ◌↔◌, ◌^◌, ℕ, [], All, Any, Contains, IfOk, IsTrue, Some, OnOk, length, slice_get, slice_index, slice_index_or};
 ghost use Rattle.dist_cluster.specs.Partition.{IsIn};
 ghost use Rattle.dist_repo.specs.Match.{IsUsable};
 ghost use Rattle.dist_repo.specs.Order.{IsFlat};
@@ -60,6 +60,23 @@ impl Model for Frame {
     }) };
 }
 
+/// Adds the number of the cluster of each package to an empty list.
+fn push_cluster_numbers(
+    clusters: &Clusters,
+    packages: u32,
+    numbers: &mut Vec<u32>,
+) -> Result<(), AllocError>
+    requires every { (m : ℕ) → m < packages → Any (λ cluster. Contains cluster m) clusters.now.members }
+    requires within { (c m : ℕ) → IsIn clusters.now.members c m → m < packages }
+    requires none { numbers.old.items ≡ [] }
+    ensures { OnOk result ((c m : ℕ) → IsIn clusters.now.members c m ↔ (slice_get numbers.new.items m ≡ Some c)) }
+{
+    for member in 0..packages {
+        numbers.push(clusters.cluster_of(member))?;
+    }
+    Ok(())
+}
+
 /// The number of the cluster of each package.
 fn cluster_numbers(
     alloc: Global,
@@ -71,10 +88,30 @@ fn cluster_numbers(
     ensures { IfOk result (λ numbers. (c m : ℕ) → IsIn clusters.now.members c m ↔ (slice_get numbers.items m ≡ Some c)) }
 {
     let mut numbers = Vec::new(alloc);
-    for member in 0..packages {
-        numbers.push(clusters.cluster_of(member))?;
+    match push_cluster_numbers(clusters, packages, &mut numbers) {
+        Ok(()) => Ok(numbers),
+        Err(error) => {
+            drop(numbers);
+            Err(error)
+        }
     }
-    Ok(numbers)
+}
+
+/// Adds the classes of each cluster, with examples, to an empty list.
+fn push_cluster_classes(
+    alloc: Global,
+    finder: &CutFinder,
+    clusters: &Clusters,
+    classes: &mut Vec<Exampled>,
+) -> Result<(), AllocError>
+    requires clusters { AreClustersOf finder.now clusters.now }
+    requires none { classes.old.items ≡ [] }
+    ensures { OnOk result (AreClassesBeside finder.now clusters.now classes.new.items) }
+{
+    for cluster in 0..clusters.len() {
+        classes.push(Exampled::new(alloc, finder.classes_of_cluster(clusters, cluster)?)?)?;
+    }
+    Ok(())
 }
 
 /// The classes of each cluster, with examples.
@@ -87,10 +124,29 @@ fn cluster_classes_of(
     ensures { IfOk result (λ classes. AreClassesBeside finder.now clusters.now classes.items) }
 {
     let mut classes = Vec::new(alloc);
-    for cluster in 0..clusters.len() {
-        classes.push(Exampled::new(alloc, finder.classes_of_cluster(clusters, cluster)?)?)?;
+    match push_cluster_classes(alloc, finder, clusters, &mut classes) {
+        Ok(()) => Ok(classes),
+        Err(error) => {
+            drop(classes);
+            Err(error)
+        }
     }
-    Ok(classes)
+}
+
+/// Adds the classes of each new name, with examples, to an empty list.
+fn push_name_classes<'a>(
+    alloc: Global,
+    finder: &CutFinder<'a>,
+    names: &'a Names,
+    classes: &mut Vec<Exampled>,
+) -> Result<(), AllocError>
+    requires { classes.old.items ≡ [] }
+    ensures { OnOk result (AreNameClassesBeside finder.now names.now classes.new.items) }
+{
+    for name in 0..names.len() {
+        classes.push(Exampled::new(alloc, finder.classes_of_new_name(names.get(name))?)?)?;
+    }
+    Ok(())
 }
 
 /// The classes of each new name, with examples.
@@ -102,27 +158,126 @@ fn name_classes_of<'a>(
     ensures { IfOk result (λ classes. AreNameClassesBeside finder.now names.now classes.items) }
 {
     let mut classes = Vec::new(alloc);
-    for name in 0..names.len() {
-        classes.push(Exampled::new(alloc, finder.classes_of_new_name(names.get(name))?)?)?;
+    match push_name_classes(alloc, finder, names, &mut classes) {
+        Ok(()) => Ok(classes),
+        Err(error) => {
+            drop(classes);
+            Err(error)
+        }
     }
-    Ok(classes)
 }
 
 /// The classes of each cluster and of each new name.
+#[derive(Drop)]
+struct AllClasses {
+    of_clusters: Vec<Exampled>,
+    of_names: Vec<Exampled>,
+}
+
+/// Finds the classes of each cluster and of each new name.
+fn found_classes<'a>(
+    alloc: Global,
+    finder: &CutFinder<'a>,
+    clusters: &Clusters,
+    names: &'a Names,
+) -> Result<AllClasses, AllocError>
+    requires { AreClustersOf finder.now clusters.now }
+    ensures clusters { IfOk result (λ found. AreClassesBeside finder.now clusters.now found.of_clusters.items) }
+    ensures names { IfOk result (λ found. AreNameClassesBeside finder.now names.now found.of_names.items) }
+{
+    let of_clusters = cluster_classes_of(alloc, finder, clusters)?;
+    match name_classes_of(alloc, finder, names) {
+        Ok(of_names) => Ok(AllClasses {
+            of_clusters,
+            of_names,
+        }),
+        Err(error) => {
+            drop(of_clusters);
+            Err(error)
+        }
+    }
+}
+
+/// The classes of each cluster and of each new name of a repository.
 fn all_classes(
     alloc: Global,
     repo: &Repository,
     clusters: &Clusters,
     names: &Names,
-) -> Result<(Vec<Exampled>, Vec<Exampled>), AllocError>
+) -> Result<AllClasses, AllocError>
     requires { AreClustersOf repo.now clusters.now }
-    ensures clusters { IfOk result (λ found. AreClassesBeside repo.now clusters.now found.0.items) }
-    ensures names { IfOk result (λ found. AreNameClassesBeside repo.now names.now found.1.items) }
+    ensures clusters { IfOk result (λ found. AreClassesBeside repo.now clusters.now found.of_clusters.items) }
+    ensures names { IfOk result (λ found. AreNameClassesBeside repo.now names.now found.of_names.items) }
 {
     let finder = CutFinder::new(alloc, repo)?;
-    let classes = cluster_classes_of(alloc, &finder, clusters)?;
-    let name_classes = name_classes_of(alloc, &finder, names)?;
-    Ok((classes, name_classes))
+    let found = found_classes(alloc, &finder, clusters, names);
+    drop(finder);
+    found
+}
+
+/// The clusters of a repository's packages.
+#[derive(Drop)]
+struct Clustered {
+    clusters: Clusters,
+    /// For each package the number of its cluster.
+    cluster_of: Vec<u32>,
+}
+
+/// Finds the clusters, and for each package the number of its cluster.
+fn find_clusters(alloc: Global, repo: &Repository) -> Result<Clustered, AllocError>
+    requires { IsWithinSize repo.now }
+    ensures clusters { IfOk result (λ found. AreClustersOf repo.now found.clusters) }
+    ensures numbers { IfOk result (λ found. (c m : ℕ) → IsIn found.clusters.members c m ↔ (slice_get found.cluster_of.items m ≡ Some c)) }
+{
+    let clusters = repository_clusters(alloc, repo)?;
+    match cluster_numbers(alloc, &clusters, repo.len()) {
+        Ok(cluster_of) => Ok(Clustered {
+            clusters,
+            cluster_of,
+        }),
+        Err(error) => {
+            drop(clusters);
+            Err(error)
+        }
+    }
+}
+
+/// The new names. More than 4,294,967,295 are want of memory.
+fn few_names(alloc: Global, repo: &Repository) -> Result<Names, AllocError>
+    ensures names { IfOk result (AreNewNames repo.now) }
+    ensures few { IfOk result (λ names. length names < 2 ^ 32) }
+{
+    let names = new_names(alloc, repo)?;
+    if names.len() > u32::MAX as usize {
+        drop(names);
+        return Err(AllocError);
+    }
+    Ok(names)
+}
+
+/// The clusters of a repository's packages, and its new names.
+#[derive(Drop)]
+struct Parts {
+    clustered: Clustered,
+    names: Names,
+}
+
+/// Finds the clusters and the new names.
+fn parts_of(alloc: Global, repo: &Repository) -> Result<Parts, AllocError>
+    requires { IsWithinSize repo.now }
+    ensures clusters { IfOk result (λ found. AreClustersOf repo.now found.clustered.clusters) }
+    ensures numbers { IfOk result (λ found. (c m : ℕ) → IsIn found.clustered.clusters.members c m ↔ (slice_get found.clustered.cluster_of.items m ≡ Some c)) }
+    ensures names { IfOk result (λ found. AreNewNames repo.now found.names) }
+    ensures few { IfOk result (λ found. length found.names < 2 ^ 32) }
+{
+    let clustered = find_clusters(alloc, repo)?;
+    match few_names(alloc, repo) {
+        Ok(names) => Ok(Parts { clustered, names }),
+        Err(error) => {
+            drop(clustered);
+            Err(error)
+        }
+    }
 }
 
 impl Frame {
@@ -133,22 +288,46 @@ impl Frame {
         requires within_size { IsWithinSize repo }
         ensures { IfOk result (IsFrameOf repo essential) }
     {
-        let clusters = repository_clusters(alloc, &repo)?;
-        let cluster_of = cluster_numbers(alloc, &clusters, repo.len())?;
-        let names = new_names(alloc, &repo)?;
-        if names.len() > u32::MAX as usize {
-            return Err(AllocError);
+        match parts_of(alloc, &repo) {
+            Ok(parts) => Frame::from_parts(alloc, repo, essential, parts),
+            Err(error) => {
+                drop(repo);
+                Err(error)
+            }
         }
-        let (classes, name_classes) = all_classes(alloc, &repo, &clusters, &names)?;
-        Ok(Frame {
-            repo,
-            essential,
-            clusters,
-            cluster_of,
-            classes,
-            names,
-            name_classes,
-        })
+    }
+
+    /// Finds the classes beside clusters and new names.
+    fn from_parts(
+        alloc: Global,
+        repo: Repository,
+        essential: bool,
+        parts: Parts,
+    ) -> Result<Frame, AllocError>
+        requires flat { IsFlat repo.packages }
+        requires within_size { IsWithinSize repo }
+        requires clusters { AreClustersOf repo parts.clustered.clusters }
+        requires numbers { (c m : ℕ) → IsIn parts.clustered.clusters.members c m ↔ (slice_get parts.clustered.cluster_of.items m ≡ Some c) }
+        requires names { AreNewNames repo parts.names }
+        requires few { length parts.names < 2 ^ 32 }
+        ensures { IfOk result (IsFrameOf repo essential) }
+    {
+        match all_classes(alloc, &repo, &parts.clustered.clusters, &parts.names) {
+            Ok(found) => Ok(Frame {
+                repo,
+                essential,
+                clusters: parts.clustered.clusters,
+                cluster_of: parts.clustered.cluster_of,
+                classes: found.of_clusters,
+                names: parts.names,
+                name_classes: found.of_names,
+            }),
+            Err(error) => {
+                drop(repo);
+                drop(parts);
+                Err(error)
+            }
+        }
     }
 
     /// How many packages there are.

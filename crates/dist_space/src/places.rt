@@ -45,22 +45,34 @@ impl Places {
         Ok(())
     }
 
+    /// Notes where all meanings stand.
+    fn note_all(&mut self, meanings: &[Meaning]) -> Result<(), AllocError> {
+        let mut place = 0u32;
+        for meaning in meanings {
+            self.note(place, meaning)?;
+            place = place.wrapping_add(1);
+        }
+        Ok(())
+    }
+
     /// Goes through the meanings of all variables.
     pub(crate) fn of(
         alloc: Global,
         packages: u32,
         meanings: &[Meaning],
     ) -> Result<Places, AllocError> {
+        let members = zeros(alloc, packages)?;
         let mut places = Places {
             clusters: Vec::new(alloc),
-            members: zeros(alloc, packages)?,
+            members,
         };
-        let mut place = 0u32;
-        for meaning in meanings {
-            places.note(place, meaning)?;
-            place = place.wrapping_add(1);
+        match places.note_all(meanings) {
+            Ok(()) => Ok(places),
+            Err(error) => {
+                drop(places);
+                Err(error)
+            }
         }
-        Ok(places)
     }
 
     /// Where a class of a cluster stands, of so many: each takes as much room as the others.

@@ -1,10 +1,12 @@
 //! The space of the futures of a repository.
-ghost use Rattle.std.specs.Prelude.{◌≡◌, ◌≤◌, ◌<◌, ◌-◌, ◌^◌, ◌↔◌, ℕ, Contains, IfOk, Some, length, slice_get};
+ghost use Rattle.std.specs.Prelude.{◌≡◌, ◌≤◌, ◌<◌, ◌-◌, ◌^◌, ◌↔◌, ℕ, [], Contains, IfErr, IfOk, Some, length, slice_get};
 ghost use Rattle.dist_base.specs.declared.TheConstants.{MAX_VARIABLES};
 ghost use Rattle.dist_base.specs.Answers.{IsExactly};
 ghost use Rattle.dist_repo.specs.Order.{IsFlat};
 ghost use Rattle.dist_repo.specs.Size.{IsWithinSize};
-ghost use Rattle.dist_space.specs.EntryOrder.{IsEntryNamed};
+ghost use Rattle.dist_space.specs.EntryOrder.{AreEntryOrders, IsEntryNamed};
+ghost use Rattle.dist_space.specs.Kept.{IsExtended, IsFull};
+ghost use Rattle.dist_space.specs.NumberingPrivate.{meanings_of};
 ghost use Rattle.dist_space.specs.Space.{IsMeaningOf, IsMeaning, IsSpace, cluster_classes, example_at, fresh_classes, variable_of};
 ghost use Rattle.dist_space.specs.SpaceOf.{HasMoreVariables, IsSpaceOf};
 
@@ -21,7 +23,7 @@ use dist_cluster::Clusters;
 use dist_relation::Name;
 use dist_repo::{Package, Repository};
 use dist_version::Version;
-use std::alloc::Global;
+use std::alloc::{AllocError, Global};
 use std::marker::Model;
 
 /// A flat repository, the classes to which its clusters may move, and what each variable means. It is kept at mode essential
@@ -66,6 +68,50 @@ impl Model for Space {
     }) × AreEntryOrders s.frame.repository.packages s.entries };
 }
 
+/// Guesses of places, and the entries of each package in the order of their names.
+#[derive(Drop)]
+struct Tables {
+    places: Places,
+    entries: Flat<u32>,
+}
+
+/// Finds both.
+fn tables_of(alloc: Global, frame: &Frame, meanings: &[Meaning]) -> Result<Tables, AllocError>
+    ensures { IfOk result (λ tables. AreEntryOrders frame.now.repository.packages tables.entries) }
+{
+    let places = Places::of(alloc, frame.package_count(), meanings)?;
+    match entry_orders(alloc, frame) {
+        Ok(entries) => Ok(Tables { places, entries }),
+        Err(error) => {
+            drop(places);
+            Err(error)
+        }
+    }
+}
+
+/// What each variable means, and the tables of a space.
+#[derive(Drop)]
+struct Numbered {
+    meanings: Vec<Meaning>,
+    tables: Tables,
+}
+
+/// Numbers the variables of a space.
+fn number_all(alloc: Global, frame: &Frame, variables: u32) -> Result<Numbered, SpaceError>
+    ensures ok { IfOk result (λ found. IsExtended variables [] (meanings_of frame.now) found.meanings.items) }
+    ensures entries { IfOk result (λ found. AreEntryOrders frame.now.repository.packages found.tables.entries) }
+    ensures err { IfErr result (IsFull variables (length (meanings_of frame.now))) }
+{
+    let meanings = number_meanings(alloc, frame, variables)?;
+    match tables_of(alloc, frame, &meanings) {
+        Ok(tables) => Ok(Numbered { meanings, tables }),
+        Err(_) => {
+            drop(meanings);
+            Err(SpaceError::NoMemory)
+        }
+    }
+}
+
 /// The space of a flat repository, which is kept in it, at mode essential or plain. After an `Err` the repository is given up.
 pub fn space_of(
     alloc: Global,
@@ -83,15 +129,18 @@ pub fn space_of(
     // What this call tells is that no other space has another number of variables.
     spaces_are_one();
     let frame = Frame::new(alloc, repo, essential)?;
-    let meanings = number_meanings(alloc, &frame, variables)?;
-    let places = Places::of(alloc, frame.package_count(), &meanings)?;
-    let entries = entry_orders(alloc, &frame)?;
-    Ok(Space {
-        frame,
-        meanings,
-        places,
-        entries,
-    })
+    match number_all(alloc, &frame, variables) {
+        Ok(numbered) => Ok(Space {
+            frame,
+            meanings: numbered.meanings,
+            places: numbered.tables.places,
+            entries: numbered.tables.entries,
+        }),
+        Err(error) => {
+            drop(frame);
+            Err(error)
+        }
+    }
 }
 
 impl Space {

@@ -1,7 +1,7 @@
 use Rattle.std.proofs.Common.{◌≡◌, ℕ, ◌<◌, map, take}
 use Rattle.dist_classes.specs.ClassList.{example_text}
 use Rattle.dist_space.specs.Space.{IsExample}
-use Rattle.dist_space.proofs.exampled.examples_of.Given as goal
+use Rattle.dist_space.proofs.exampled.push_examples.Given as goal
 
 abbrev pub invariant-loop-place : goal.invariant-loop-place
 invariant-loop-place l = record {

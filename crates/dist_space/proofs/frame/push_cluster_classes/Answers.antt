@@ -3,7 +3,7 @@ use Rattle.dist_classes.specs.Answers.{AreClassesOf}
 use Rattle.dist_classes.specs.declared.class_value.Class.{Class}
 use Rattle.dist_space.specs.Kept.{AreExampled}
 use Rattle.dist_space.proofs.FrameLemmas.{count-pushed, each-past, each-pushed, none-exampled}
-use Rattle.dist_space.proofs.frame.cluster_classes_of.Goals as goal
+use Rattle.dist_space.proofs.frame.push_cluster_classes.Goals as goal
 
 pub loop-cluster-preserved : goal.loop-cluster-preserved
 loop-cluster-preserved c =

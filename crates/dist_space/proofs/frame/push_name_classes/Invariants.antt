@@ -1,7 +1,7 @@
 use Rattle.std.proofs.Common.{◌≡◌, ℕ, ◌<◌, [], length, get_or}
 use Rattle.dist_classes.specs.Answers.{AreClassesOfName}
 use Rattle.dist_space.specs.Kept.{AreExampled}
-use Rattle.dist_space.proofs.frame.name_classes_of.Given as goal
+use Rattle.dist_space.proofs.frame.push_name_classes.Given as goal
 
 abbrev pub invariant-loop-name : goal.invariant-loop-name
 invariant-loop-name l = record {

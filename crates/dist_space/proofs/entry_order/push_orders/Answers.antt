@@ -4,7 +4,7 @@ use Rattle.dist_repo.specs.declared.package.Package.{Package}
 use Rattle.dist_space.specs.EntryOrder.{IsEntryOrder}
 use Rattle.dist_space.proofs.EntryLemmas.{order-pushed}
 use Rattle.dist_space.proofs.FrameLemmas.{count-pushed}
-use Rattle.dist_space.proofs.entry_order.entry_orders.Goals as goal
+use Rattle.dist_space.proofs.entry_order.push_orders.Goals as goal
 
 pub loop-number-preserved : goal.loop-number-preserved
 loop-number-preserved c =

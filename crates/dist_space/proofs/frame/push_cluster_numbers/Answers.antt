@@ -1,10 +1,10 @@
 use Rattle.std.proofs.Common.{◌≡◌, ℕ, ◌+◌, length, arith, subst, sym, ap, ◌∙◌, List}
 use Rattle.std.proofs.lemmas.List.{length_push}
 use Rattle.dist_space.proofs.FrameLemmas.{AreNumbers, numbers-all, numbers-more}
-use Rattle.dist_space.proofs.frame.cluster_numbers.Goals as goal
+use Rattle.dist_space.proofs.frame.push_cluster_numbers.Goals as goal
 
 pub loop-member-init : goal.loop-member-init
-loop-member-init c = record { counted = ap length c.new-numbers.ensures.items; are = λ d m short. absurd (omega (arith, short)) }
+loop-member-init c = record { counted = ap length c.requires.none; are = λ d m short. absurd (omega (arith, short)) }
 
 pub loop-member-preserved : goal.loop-member-preserved
 loop-member-preserved c =

@@ -1,7 +1,7 @@
 use Rattle.std.proofs.Common.{◌≡◌, ℕ, ◌<◌, [], length, get_or}
 use Rattle.dist_classes.specs.Answers.{AreClassesOf}
 use Rattle.dist_space.specs.Kept.{AreExampled}
-use Rattle.dist_space.proofs.frame.cluster_classes_of.Given as goal
+use Rattle.dist_space.proofs.frame.push_cluster_classes.Given as goal
 
 abbrev pub invariant-loop-cluster : goal.invariant-loop-cluster
 invariant-loop-cluster l = record {

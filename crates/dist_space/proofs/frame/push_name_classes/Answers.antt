@@ -4,7 +4,7 @@ use Rattle.dist_classes.specs.Answers.{AreClassesOfName}
 use Rattle.dist_classes.specs.declared.class_value.Class.{Class}
 use Rattle.dist_space.specs.Kept.{AreExampled}
 use Rattle.dist_space.proofs.FrameLemmas.{count-pushed, each-past, each-pushed, none-exampled}
-use Rattle.dist_space.proofs.frame.name_classes_of.Goals as goal
+use Rattle.dist_space.proofs.frame.push_name_classes.Goals as goal
 
 pub loop-name-preserved : goal.loop-name-preserved
 loop-name-preserved c =

@@ -1,7 +1,7 @@
 use Rattle.std.proofs.Common.{◌≡◌, ◌<◌, ℕ, [], Some, length, get_or, slice_get}
 use Rattle.dist_repo.specs.declared.package.Package.{Package}
 use Rattle.dist_space.specs.EntryOrder.{IsEntryOrder}
-use Rattle.dist_space.proofs.entry_order.entry_orders.Given as goal
+use Rattle.dist_space.proofs.entry_order.push_orders.Given as goal
 
 -- those of the packages so far are in order
 abbrev pub invariant-loop-number : goal.invariant-loop-number

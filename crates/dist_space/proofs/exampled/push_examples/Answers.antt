@@ -4,7 +4,7 @@ use Rattle.dist_version.specs.Spelling.{parts_of}
 use Rattle.dist_classes.specs.ClassList.{example_text}
 use Rattle.dist_space.specs.Space.{IsExample}
 use Rattle.dist_space.proofs.ExampleLemmas.{example-is, examples-more}
-use Rattle.dist_space.proofs.exampled.examples_of.Goals as goal
+use Rattle.dist_space.proofs.exampled.push_examples.Goals as goal
 
 pub loop-place-preserved : goal.loop-place-preserved
 loop-place-preserved c =
@@ -21,7 +21,7 @@ loop-place-preserved c =
 
 pub returns : goal.returns
 returns c = record {
-  few = c.requires;
+  few = c.requires.few;
   are = c.loop-place.invariant.are ∙ ap (map example_text) (take_all _ _ (omega arith));
   each = λ k short. c.loop-place.invariant.each k (omega arith);
 }
