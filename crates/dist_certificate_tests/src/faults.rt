@@ -5,16 +5,15 @@ use dist_cert::CertCause::{
 };
 use dist_cert::CertFault;
 use dist_outside::Limits;
-use dist_samples::{PAIR, TEN, TWO};
+use dist_samples::{PAIR, TEN, TWO, hold};
 use dist_verdicts::{at, edited, fault_of, is_accepted};
 use std::alloc::Global;
-use std::process::Abort;
 
 /// The first and the last of some lines of a certificate, what takes their place, and the line and the cause of the refusal.
 pub(crate) type Edit = (u64, u64, &'static str, u64, CertCause);
 
 /// Of the certificate of a and b.
-const EDITS: [Edit; 29] = [
+const EDITS: &[Edit] = &[
     // First lines of other kinds.
     (
         1,
@@ -85,37 +84,35 @@ const EDITS: [Edit; 29] = [
 /// The fault of an edit.
 fn fault_of_edit(alloc: Global, stanzas: &str, text: &str, edit: &Edit) -> Option<CertFault> {
     let text = edited(alloc, text, edit.0, edit.1, edit.2)?;
-    fault_of(alloc, stanzas, &text, &Limits::stated())
+    let fault = fault_of(alloc, stanzas, &text, &Limits::stated());
+    drop(text);
+    fault
 }
 
-/// Each edit of a text over some stanzas must be refused as it says.
-pub(crate) fn hold_edits(
-    rt: &(impl Abort + AllocGlobal),
+/// What the first edit of a text that is not refused as it says puts in.
+pub(crate) fn wrong_edit(
+    alloc: Global,
     stanzas: &str,
     text: &str,
     edits: &[Edit],
-) {
+) -> Option<&'static str> {
     for edit in edits {
-        let fault = fault_of_edit(rt.alloc(), stanzas, text, edit);
-        assert_eq!(rt;
-            fault,
-            at(edit.3, edit.4),
-            "{:?} at line {}",
-            edit.2,
-            edit.0
-        );
+        if fault_of_edit(alloc, stanzas, text, edit) != at(edit.3, edit.4) {
+            return Some(edit.2);
+        }
     }
+    None
 }
 
 #[test]
 fn edits_are_refused(rt: HostRuntime) {
-    hold_edits(&rt, TWO, TEN, &EDITS);
+    hold(&rt, wrong_edit(rt.alloc(), TWO, TEN, EDITS));
 }
 
 /// Stanzas, a text, and the line and the cause of its refusal.
 pub(crate) type Text = (&'static str, &'static str, u64, CertCause);
 
-const TEXTS: [Text; 5] = [
+const TEXTS: &[Text] = &[
     // An undecided question needs new lines.
     (
         TWO,
@@ -151,17 +148,19 @@ const TEXTS: [Text; 5] = [
     ),
 ];
 
-/// Each text must be refused as its row says.
-pub(crate) fn hold_texts(rt: &(impl Abort + AllocGlobal), rows: &[Text]) {
+/// The first text that is not refused as its row says.
+pub(crate) fn wrong_text(alloc: Global, rows: &[Text]) -> Option<&'static str> {
     for (stanzas, text, line, cause) in rows {
-        let fault = fault_of(rt.alloc(), stanzas, text.as_bytes(), &Limits::stated());
-        assert_eq!(rt; fault, at(*line, *cause), "{text}");
+        if fault_of(alloc, stanzas, text.as_bytes(), &Limits::stated()) != at(*line, *cause) {
+            return Some(text);
+        }
     }
+    None
 }
 
 #[test]
 fn texts_are_refused(rt: HostRuntime) {
-    hold_texts(&rt, &TEXTS);
+    hold(&rt, wrong_text(rt.alloc(), TEXTS));
 }
 
 /// Whether a front of a certificate is truncated at the line that it ends in.
@@ -175,19 +174,19 @@ fn is_truncated(alloc: Global, stanzas: &str, front: &[u8]) -> bool {
     fault_of(alloc, stanzas, front, &Limits::stated()) == at(line, Truncated)
 }
 
-/// Each front of a certificate over some stanzas must be truncated.
-pub(crate) fn hold_fronts(rt: &(impl Abort + AllocGlobal), stanzas: &str, text: &[u8]) {
+/// The length of the first front of a certificate that is not truncated.
+pub(crate) fn whole_front(alloc: Global, stanzas: &str, text: &[u8]) -> Option<usize> {
     for length in 0..text.len() {
-        assert!(rt;
-            is_truncated(rt.alloc(), stanzas, &text[..length]),
-            "{length} bytes"
-        );
+        if !is_truncated(alloc, stanzas, &text[..length]) {
+            return Some(length);
+        }
     }
+    None
 }
 
 #[test]
 fn fronts_are_truncated(rt: HostRuntime) {
-    hold_fronts(&rt, TWO, TEN.as_bytes());
+    assert_eq!(rt; whole_front(rt.alloc(), TWO, TEN.as_bytes()), None);
 }
 
 /// How many installations stand in place of the first question, the two claims, and the line and the cause of the refusal,
@@ -195,7 +194,7 @@ fn fronts_are_truncated(rt: HostRuntime) {
 type Many = (usize, &'static str, &'static str, Option<(u64, CertCause)>);
 
 /// The latest 1,024 installations may be named.
-const MANY: [Many; 4] = [
+const MANY: &[Many] = &[
     (1024, "s 1 1 0 2 0\n", "s 2 1025 0 0\n", None),
     (
         1025,
@@ -212,50 +211,58 @@ const MANY: [Many; 4] = [
     ),
 ];
 
-/// A first line, and behind it so many times the installation of variables 1 and 2.
-pub(crate) fn installed_again(alloc: Global, first: &str, times: usize) -> Option<Vec<u8>> {
-    let mut text = Vec::new(alloc);
+/// Adds a first line, and behind it so many times the installation of variables 1 and 2.
+pub(crate) fn install_again(text: &mut Vec<u8>, first: &str, times: usize) -> Option<()> {
     text.extend_from_slice(first.as_bytes()).ok()?;
     for _ in 0..times {
         text.extend_from_slice(b"m 1 2\n").ok()?;
     }
-    Some(text)
+    Some(())
 }
 
-/// The text of a row of many installations.
-fn text_of(alloc: Global, row: &Many) -> Option<Vec<u8>> {
+/// Adds the text of a row of many installations.
+fn add_many(text: &mut Vec<u8>, row: &Many) -> Option<()> {
     let first = "distfuture-certificate 1 strong plain 10000 2 2 1\n";
-    let mut text = installed_again(alloc, first, row.0)?;
+    install_again(text, first, row.0)?;
     text.extend_from_slice(b"q 1 -2\nf 1\n").ok()?;
     text.extend_from_slice(row.1.as_bytes()).ok()?;
     text.extend_from_slice(b"q 2\nm 2\n").ok()?;
     text.extend_from_slice(row.2.as_bytes()).ok()?;
-    text.extend_from_slice(b"e\n").ok()?;
-    Some(text)
+    text.extend_from_slice(b"e\n").ok()
+}
+
+/// Whether a text over some stanzas is refused as it should be, or is accepted where it should not.
+pub(crate) fn is_told(
+    alloc: Global,
+    stanzas: &str,
+    text: &[u8],
+    refused: Option<(u64, CertCause)>,
+) -> bool {
+    match refused {
+        Some((line, cause)) => fault_of(alloc, stanzas, text, &Limits::stated()) == at(line, cause),
+        None => is_accepted(alloc, stanzas, text),
+    }
 }
 
 /// Whether a row is refused as it says, or is accepted where it says so.
-fn is_judged(alloc: Global, row: &Many) -> Option<bool> {
-    let text = text_of(alloc, row)?;
-    Some(match row.3 {
-        Some((line, cause)) => fault_of(alloc, TWO, &text, &Limits::stated()) == at(line, cause),
-        None => is_accepted(alloc, TWO, &text),
-    })
+fn is_judged(alloc: Global, row: &Many) -> bool {
+    let mut text = Vec::new(alloc);
+    let so = add_many(&mut text, row).is_some() && is_told(alloc, TWO, &text, row.3);
+    drop(text);
+    so
 }
 
-fn hold_many(rt: &(impl Abort + AllocGlobal), rows: &[Many]) {
-    for row in rows {
-        assert_eq!(rt;
-            is_judged(rt.alloc(), row),
-            Some(true),
-            "{}, {}",
-            row.0,
-            row.1
-        );
+/// The place of the first row that is judged otherwise.
+fn wrong_many(alloc: Global, rows: &[Many]) -> Option<usize> {
+    for place in 0..rows.len() {
+        if !is_judged(alloc, &rows[place]) {
+            return Some(place);
+        }
     }
+    None
 }
 
 #[test]
 fn the_latest_1024_installations_may_be_named(rt: HostRuntime) {
-    hold_many(&rt, &MANY);
+    assert_eq!(rt; wrong_many(rt.alloc(), MANY), None);
 }

@@ -1,5 +1,5 @@
 //! Certificates that are judged by futures and refused, each at the line and for the cause of its first fault.
-use crate::faults::{Edit, Text, hold_edits, hold_fronts, hold_texts, installed_again};
+use crate::faults::{Edit, Text, install_again, is_told, whole_front, wrong_edit, wrong_text};
 use crate::future_certificates::{
     BROKEN, CROWDED, DOUBTED, ESSENTIAL, FOUR, MARKED, MOVING, OLD, SHUT_OUT, STALE,
 };
@@ -7,11 +7,8 @@ use dist_cert::CertCause::{
     self, BadHeader, BadLine, BadRecord, Incomplete, LimitNotReached, NotAFuture,
     NotAnInstallation, NotNew, OutOfOrder, OutOfRange, UnknownLine, WrongClaim,
 };
-use dist_outside::Limits;
-use dist_samples::LIBRARY;
-use dist_verdicts::{at, fault_of, is_accepted};
+use dist_samples::{LIBRARY, hold};
 use std::alloc::Global;
-use std::process::Abort;
 
 /// Of the certificate of outdated packages.
 const STALE_EDITS: &[Edit] = &[
@@ -206,7 +203,7 @@ const CROWDED_EDITS: &[Edit] = &[
 /// A certificate with its edits, and what it is over.
 type Edited = (&'static str, &'static str, &'static [Edit]);
 
-const EDITED: [Edited; 6] = [
+const EDITED: &[Edited] = &[
     (OLD, STALE, STALE_EDITS),
     (FOUR, DOUBTED, DOUBTED_EDITS),
     (ESSENTIAL, SHUT_OUT, SHUT_OUT_EDITS),
@@ -215,28 +212,32 @@ const EDITED: [Edited; 6] = [
     (FOUR, MARKED, MARKED_EDITS),
 ];
 
-fn hold(rt: &(impl Abort + AllocGlobal), all: &[Edited]) {
+/// What the first edit that is not refused as it says puts in.
+fn wrong_edit_of(alloc: Global, all: &[Edited]) -> Option<&'static str> {
     for (stanzas, text, edits) in all {
-        hold_edits(rt, stanzas, text, edits);
+        if let Some(wrong) = wrong_edit(alloc, stanzas, text, edits) {
+            return Some(wrong);
+        }
     }
+    None
 }
 
 #[test]
 fn edits_of_certificates_on_futures_are_refused(rt: HostRuntime) {
-    hold(&rt, &EDITED);
+    hold(&rt, wrong_edit_of(rt.alloc(), EDITED));
 }
 
 #[test]
 fn fronts_of_a_certificate_of_outdated_packages_are_truncated(rt: HostRuntime) {
-    hold_fronts(&rt, OLD, STALE.as_bytes());
+    assert_eq!(rt; whole_front(rt.alloc(), OLD, STALE.as_bytes()), None);
 }
 
 #[test]
 fn fronts_of_a_certificate_of_challenges_are_truncated(rt: HostRuntime) {
-    hold_fronts(&rt, LIBRARY, BROKEN.as_bytes());
+    assert_eq!(rt; whole_front(rt.alloc(), LIBRARY, BROKEN.as_bytes()), None);
 }
 
-const TEXTS: [Text; 2] = [
+const TEXTS: &[Text] = &[
     // The mode decides how many clauses there are.
     (
         ESSENTIAL,
@@ -255,7 +256,7 @@ const TEXTS: [Text; 2] = [
 
 #[test]
 fn texts_on_futures_are_refused(rt: HostRuntime) {
-    hold_texts(&rt, &TEXTS);
+    hold(&rt, wrong_text(rt.alloc(), TEXTS));
 }
 
 /// A package without relations.
@@ -271,7 +272,7 @@ const IF_CHALLENGED: &str = "distfuture-certificate 1 challenged plain 10000 1 4
 type Many = (&'static str, usize, &'static str, Option<(u64, CertCause)>);
 
 /// The latest 1,024 installations may be named.
-const MANY: [Many; 6] = [
+const MANY: &[Many] = &[
     (IF_OUTDATED, 1024, "a 1 1\ne\n", None),
     (IF_OUTDATED, 1025, "a 1 1\ne\n", Some((1027, WrongClaim))),
     (IF_OUTDATED, 1025, "a 1 2\ne\n", None),
@@ -286,28 +287,26 @@ const MANY: [Many; 6] = [
 ];
 
 /// Whether a row is refused as it says, or is accepted where it says so.
-fn is_judged(alloc: Global, row: &Many) -> Option<bool> {
-    let mut text = installed_again(alloc, row.0, row.1)?;
-    text.extend_from_slice(row.2.as_bytes()).ok()?;
-    Some(match row.3 {
-        Some((line, cause)) => fault_of(alloc, ONE, &text, &Limits::stated()) == at(line, cause),
-        None => is_accepted(alloc, ONE, &text),
-    })
+fn is_judged(alloc: Global, row: &Many) -> bool {
+    let mut text = Vec::new(alloc);
+    let so = install_again(&mut text, row.0, row.1).is_some()
+        && text.extend_from_slice(row.2.as_bytes()).is_ok()
+        && is_told(alloc, ONE, &text, row.3);
+    drop(text);
+    so
 }
 
-fn hold_many(rt: &(impl Abort + AllocGlobal), rows: &[Many]) {
-    for row in rows {
-        assert_eq!(rt;
-            is_judged(rt.alloc(), row),
-            Some(true),
-            "{}, {}",
-            row.1,
-            row.2
-        );
+/// The place of the first row that is judged otherwise.
+fn wrong_many(alloc: Global, rows: &[Many]) -> Option<usize> {
+    for place in 0..rows.len() {
+        if !is_judged(alloc, &rows[place]) {
+            return Some(place);
+        }
     }
+    None
 }
 
 #[test]
 fn the_latest_1024_installations_of_futures_may_be_named(rt: HostRuntime) {
-    hold_many(&rt, &MANY);
+    assert_eq!(rt; wrong_many(rt.alloc(), MANY), None);
 }

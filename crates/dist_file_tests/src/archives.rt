@@ -69,11 +69,19 @@ fn has_text(alloc: Global, row: &Text) -> bool {
     }
 }
 
+/// The place of the first row with another text.
+fn wrong_text(alloc: Global, rows: &[Text]) -> Option<usize> {
+    for place in 0..rows.len() {
+        if !has_text(alloc, &rows[place]) {
+            return Some(place);
+        }
+    }
+    None
+}
+
 #[test]
 fn small_archives(rt: HostRuntime) {
-    for row in TEXTS {
-        assert!(rt; has_text(rt.alloc(), row), "size {}", row.0);
-    }
+    assert_eq!(rt; wrong_text(rt.alloc(), TEXTS), None);
 }
 
 /// A sum over all bytes in their order.
@@ -107,9 +115,17 @@ fn has_measure(alloc: Global, row: &Measure) -> bool {
     }
 }
 
+/// The place of the first row with another measure.
+fn wrong_measure(alloc: Global, rows: &[Measure]) -> Option<usize> {
+    for place in 0..rows.len() {
+        if !has_measure(alloc, &rows[place]) {
+            return Some(place);
+        }
+    }
+    None
+}
+
 #[test]
 fn larger_archives(rt: HostRuntime) {
-    for row in MEASURES {
-        assert!(rt; has_measure(rt.alloc(), row), "size {} of {}", row.0, row.1);
-    }
+    assert_eq!(rt; wrong_measure(rt.alloc(), MEASURES), None);
 }

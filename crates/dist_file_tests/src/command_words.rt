@@ -174,11 +174,20 @@ const COMMANDS: &[Row] = &[
     (&["try", "--seed", "0", "--size", "2"], Told::Try(2, 0)),
 ];
 
+/// The place of the first row whose words are read otherwise.
+fn wrong_command(alloc: Global, rows: &[Row]) -> Option<usize> {
+    for place in 0..rows.len() {
+        let (list, wanted) = rows[place];
+        if read(alloc, list) != Some(wanted) {
+            return Some(place);
+        }
+    }
+    None
+}
+
 #[test]
 fn commands_are_read(rt: HostRuntime) {
-    for (list, wanted) in COMMANDS {
-        assert!(rt; read(rt.alloc(), list) == Some(*wanted), "{list:?}");
-    }
+    assert_eq!(rt; wrong_command(rt.alloc(), COMMANDS), None);
 }
 
 const OTHERS: &[&[&str]] = &[
@@ -248,9 +257,17 @@ const OTHERS: &[&[&str]] = &[
     &["--help"],
 ];
 
+/// The place of the first words that are not refused.
+fn taken_words(alloc: Global, rows: &[&[&str]]) -> Option<usize> {
+    for place in 0..rows.len() {
+        if read(alloc, rows[place]) != Some(Told::Refused) {
+            return Some(place);
+        }
+    }
+    None
+}
+
 #[test]
 fn other_words_are_refused(rt: HostRuntime) {
-    for list in OTHERS {
-        assert!(rt; read(rt.alloc(), list) == Some(Told::Refused), "{list:?}");
-    }
+    assert_eq!(rt; taken_words(rt.alloc(), OTHERS), None);
 }

@@ -18,23 +18,38 @@ fn make_true(space: &Space, members: &mut Assignment, variable: u32) -> bool
     true
 }
 
+/// Makes variables true, and says whether there are such.
+fn make_all_true(space: &Space, members: &mut Assignment, variables: &[u32]) -> bool
+    requires { IsOneEach space.now members.old }
+    ensures { IsOneEach space.now members.new }
+{
+    for variable in variables {
+        if !make_true(space, members, *variable) {
+            return false;
+        }
+    }
+    true
+}
+
 /// The assignment that makes some variables true.
 fn assignment(alloc: Global, space: &Space, variables: &[u32]) -> Option<Assignment>
     ensures { IfSome result (IsOneEach space.now) }
 {
     let mut members = Assignment::new(alloc, space.variables()).ok()?;
-    for variable in variables {
-        if !make_true(space, &mut members, *variable) {
-            return None;
-        }
+    if make_all_true(space, &mut members, variables) {
+        Some(members)
+    } else {
+        drop(members);
+        None
     }
-    Some(members)
 }
 
 /// Whether the assignment that makes some variables true has this health.
 fn is_of_health(alloc: Global, space: &Space, row: &(&[u32], FutureHealth)) -> Option<bool> {
     let members = assignment(alloc, space, row.0)?;
-    Some(health_in(space, &members) == row.1)
+    let health = health_in(space, &members);
+    drop(members);
+    Some(health == row.1)
 }
 
 /// Whether the assignments that make some variables true have this health.
@@ -99,18 +114,27 @@ fn are_there(space: &Space, wanted: &[Meaning]) -> bool {
     true
 }
 
-/// Whether some healthy assignment makes these meanings true: all are tried, of fewer than twenty variables.
-fn has_model(alloc: Global, space: &Space, wanted: &[Meaning]) -> Option<bool> {
-    let mut members = Assignment::new(alloc, space.variables()).ok()?;
+/// Whether this assignment or a later one is healthy and makes these meanings true.
+fn finds_model(space: &Space, members: &mut Assignment, wanted: &[Meaning]) -> Option<bool>
+    requires { IsOneEach space.now members.old }
+{
     for _round in 0..1_000_000u32 {
-        if hold(space, &members, wanted) && health_in(space, &members) == FutureHealth::Healthy {
+        if hold(space, members, wanted) && health_in(space, members) == FutureHealth::Healthy {
             return Some(true);
         }
-        if !next(&mut members, space.variables()) {
+        if !next(members, space.variables()) {
             return Some(false);
         }
     }
     None
+}
+
+/// Whether some healthy assignment makes these meanings true: all are tried, of fewer than twenty variables.
+fn has_model(alloc: Global, space: &Space, wanted: &[Meaning]) -> Option<bool> {
+    let mut members = Assignment::new(alloc, space.variables()).ok()?;
+    let found = finds_model(space, &mut members, wanted);
+    drop(members);
+    found
 }
 
 /// Whether these meanings are there, and have a model or none, as told.

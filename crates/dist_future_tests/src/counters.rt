@@ -1,21 +1,21 @@
 //! Worked rows: the clauses of a small space with those of a counter behind them.
-ghost use Rattle.std.specs.Prelude.{◌≤◌};
+ghost use Rattle.std.specs.Prelude.{◌≡◌, ◌≤◌, length};
 ghost use Rattle.dist_base.specs.declared.TheConstants.{MAX_CLAUSES, MAX_LITERALS, MAX_VARIABLES};
 
 use crate::spaces::small_space;
 use dist_base::{MAX_CLAUSES, MAX_LITERALS, MAX_MOST};
+use dist_clause::ClauseSet;
 use dist_future::{Space, clauses_of, models_tell_of_moves};
 use dist_outside::{Limits, What, WorkError};
 use dist_repair::{counters_count_moves, with_counter};
 use dist_samples::{has, limited};
 use std::alloc::Global;
-use std::process::Abort;
 
 /// A package that needs a later version of another one.
 const LATER: &str = "Package: libx\nVersion: 1\n\nPackage: p\nVersion: 1\nDepends: libx (= 2)\n";
 
 /// What a counter to none adds to these: that a cluster at a class has moved, and that one that has moved counts.
-const TO_NONE: [&[i32]; 23] = [
+const TO_NONE: &[&[i32]] = &[
     &[-4, -6],
     &[-4, -8],
     &[-6, -8],
@@ -42,7 +42,7 @@ const TO_NONE: [&[i32]; 23] = [
 ];
 
 /// The same with a counter to one.
-const TO_ONE: [&[i32]; 25] = [
+const TO_ONE: &[&[i32]] = &[
     &[-4, -6],
     &[-4, -8],
     &[-6, -8],
@@ -77,11 +77,11 @@ type Row = (
     Result<(u32, &'static [&'static [i32]]), What>,
 );
 
-const ROWS: [Row; 10] = [
-    (0, (What::Variables, 15), Ok((15, &TO_NONE))),
-    (0, (What::Clauses, 23), Ok((15, &TO_NONE))),
-    (0, (What::Literals, 46), Ok((15, &TO_NONE))),
-    (1, (What::Variables, 17), Ok((17, &TO_ONE))),
+const ROWS: &[Row] = &[
+    (0, (What::Variables, 15), Ok((15, TO_NONE))),
+    (0, (What::Clauses, 23), Ok((15, TO_NONE))),
+    (0, (What::Literals, 46), Ok((15, TO_NONE))),
+    (1, (What::Variables, 17), Ok((17, TO_ONE))),
     (0, (What::Variables, 14), Err(What::Variables)),
     (0, (What::Clauses, 22), Err(What::Clauses)),
     (0, (What::Clauses, 3), Err(What::Clauses)),
@@ -90,47 +90,80 @@ const ROWS: [Row; 10] = [
     (MAX_MOST, (What::Variables, 142), Err(What::Variables)),
 ];
 
-/// Whether a space has a row's clauses, or passes its number.
-fn is_counted(alloc: Global, space: &Space, row: &Row, limits: &Limits) -> Option<bool>
+/// Whether a set has as many variables as a row says, and its clauses.
+fn is_set(set: &ClauseSet, row: &Row) -> bool {
+    match row.2 {
+        Ok((variables, counted)) => set.variables() == variables && has(set, counted),
+        Err(_) => false,
+    }
+}
+
+/// Whether a number that is passed is that of a row.
+fn is_passed(passed: What, row: &Row) -> bool {
+    match row.2 {
+        Ok(_) => false,
+        Err(what) => passed == what,
+    }
+}
+
+/// Whether clauses with a counter are a row's, or pass its number.
+fn is_counted(alloc: Global, space: &Space, clauses: &ClauseSet, row: &Row, limits: &Limits) -> bool
+    requires clauses { clauses.now.variables ≡ length space.now.meanings }
     requires variables { limits.now.variables ≤ MAX_VARIABLES }
-    requires clauses { limits.now.clauses ≤ MAX_CLAUSES }
+    requires clause_limit { limits.now.clauses ≤ MAX_CLAUSES }
     requires literals { limits.now.literals ≤ MAX_LITERALS }
 {
-    let clauses = clauses_of(alloc, space, MAX_CLAUSES, MAX_LITERALS).ok()?;
     if row.0 > MAX_MOST {
-        return None;
+        return false;
     }
-    let holds = match (with_counter(alloc, space, &clauses, row.0, limits), row.2) {
-        (Ok(set), Ok((variables, counted))) => set.variables() == variables && has(&set, counted),
-        (Err(WorkError::TooLarge(passed)), Err(what)) => passed == what,
-        _ => false,
-    };
-    drop(clauses);
-    Some(holds)
+    match with_counter(alloc, space, clauses, row.0, limits) {
+        Ok(set) => {
+            let holds = is_set(&set, row);
+            drop(set);
+            holds
+        }
+        Err(WorkError::TooLarge(passed)) => is_passed(passed, row),
+        Err(_) => false,
+    }
 }
 
-/// The same of the space of the stanzas.
-fn is_so(alloc: Global, row: &Row) -> Option<bool> {
-    let space = small_space(alloc, LATER, false)?;
-    let holds = is_counted(alloc, &space, row, &limited(row.1.0, row.1.1));
-    drop(space);
-    holds
+/// Whether a space has a row's clauses, or passes its number.
+fn is_counted_of(alloc: Global, space: &Space, row: &Row) -> bool {
+    match clauses_of(alloc, space, MAX_CLAUSES, MAX_LITERALS) {
+        Ok(clauses) => {
+            let holds = is_counted(alloc, space, &clauses, row, &limited(row.1.0, row.1.1));
+            drop(clauses);
+            holds
+        }
+        Err(_) => false,
+    }
 }
 
-fn hold(rt: &(impl Abort + AllocGlobal), rows: &[Row]) {
-    for row in rows {
-        assert_eq!(rt;
-            is_so(rt.alloc(), row),
-            Some(true),
-            "a counter to {}",
-            row.0
-        );
+/// The place of the first row that a space answers otherwise.
+fn wrong_row(alloc: Global, space: &Space, rows: &[Row]) -> Option<usize> {
+    for place in 0..rows.len() {
+        if !is_counted_of(alloc, space, &rows[place]) {
+            return Some(place);
+        }
+    }
+    None
+}
+
+/// The same of the space of some stanzas, or the number of rows if there is none.
+fn wrong_row_of(alloc: Global, stanzas: &str, rows: &[Row]) -> Option<usize> {
+    match small_space(alloc, stanzas, false) {
+        Some(space) => {
+            let wrong = wrong_row(alloc, &space, rows);
+            drop(space);
+            wrong
+        }
+        None => Some(rows.len()),
     }
 }
 
 #[test]
 fn clusters_that_move_are_counted(rt: HostRuntime) {
-    hold(&rt, &ROWS);
+    assert_eq!(rt; wrong_row_of(rt.alloc(), LATER, ROWS), None);
 }
 
 #[test]

@@ -6,10 +6,8 @@ use dist_future::{
     Space, clauses_of, clauses_with_ends, one_limit_is_passed, space_clauses_are_one,
     space_clauses_are_there, space_clauses_go_on,
 };
-use dist_samples::{ClauseLimits, LIBRARY, has};
+use dist_samples::{ClauseLimits, LIBRARY, has, hold};
 use std::alloc::Global;
-use std::process::Abort;
-use std::test::Fail;
 
 /// The clauses of mode plain over an essential name, and then the one of mode essential.
 const OF_BASE: &[&[i32]] = &[
@@ -36,7 +34,7 @@ const OF_BASE: &[&[i32]] = &[
 /// What a row shows, stanzas, a mode, and the clauses of their space.
 type Clauses = (&'static str, &'static str, bool, &'static [&'static [i32]]);
 
-const CLAUSES: [Clauses; 8] = [
+const CLAUSES: &[Clauses] = &[
     ("a future of nothing", "", true, &[]),
     // Members move together, so a depends on its present version and b on a later one never hold together.
     (
@@ -188,7 +186,9 @@ const CLAUSES: [Clauses; 8] = [
 /// Whether a space has exactly these clauses.
 fn has_clauses(alloc: Global, space: &Space, clauses: &[&[i32]]) -> Option<bool> {
     let set = clauses_of(alloc, space, MAX_CLAUSES, MAX_LITERALS).ok()?;
-    Some(has(&set, clauses) && set.variables() == space.variables())
+    let same = has(&set, clauses) && set.variables() == space.variables();
+    drop(set);
+    Some(same)
 }
 
 /// The same of the space of some stanzas.
@@ -199,28 +199,31 @@ fn is_made(alloc: Global, stanzas: &str, essential: bool, clauses: &[&[i32]]) ->
     made
 }
 
-fn hold_clauses(rt: &(impl Abort + AllocGlobal), rows: &[Clauses]) {
+/// What the first row with other clauses shows.
+fn wrong_clauses(alloc: Global, rows: &[Clauses]) -> Option<&'static str> {
     for (shows, stanzas, essential, clauses) in rows {
-        let made = is_made(rt.alloc(), stanzas, *essential, clauses);
-        assert_eq!(rt; made, Some(true), "{shows}");
+        if is_made(alloc, stanzas, *essential, clauses) != Some(true) {
+            return Some(shows);
+        }
     }
+    None
 }
 
 #[test]
 fn an_essential_name_has_no_clause_at_mode_plain(rt: HostRuntime) {
     let made = is_made(rt.alloc(), ESSENTIAL, false, &OF_BASE[..17]);
-    assert_eq!(rt; made, Some(true));
+    assert!(rt; made == Some(true));
 }
 
 #[test]
 fn the_clauses_of_small_spaces(rt: HostRuntime) {
-    hold_clauses(&rt, &CLAUSES);
+    hold(&rt, wrong_clauses(rt.alloc(), CLAUSES));
 }
 
 /// What a row shows, stanzas, a mode, how many clauses stand in groups 1 to 3, 1 to 5 and 1 to 6, and how many there are.
 type Ends = (&'static str, &'static str, bool, (u32, u32, u32, u32));
 
-const ENDS: [Ends; 7] = [
+const ENDS: &[Ends] = &[
     ("a future of nothing", "", true, (0, 0, 0, 0)),
     ("items alone", LIBRARY, false, (11, 12, 16, 16)),
     ("items of two members", ONE_SOURCE, false, (17, 19, 23, 23)),
@@ -238,7 +241,9 @@ const ENDS: [Ends; 7] = [
 /// Where the groups of a space's clauses end, and how many clauses there are.
 fn ends_in(alloc: Global, space: &Space) -> Option<(u32, u32, u32, u32)> {
     let (set, ends) = clauses_with_ends(alloc, space, MAX_CLAUSES, MAX_LITERALS).ok()?;
-    Some((ends.early, ends.today, ends.after, set.len()))
+    let clauses = set.len();
+    drop(set);
+    Some((ends.early, ends.today, ends.after, clauses))
 }
 
 /// The same of the space of some stanzas.
@@ -249,19 +254,22 @@ fn ends_of(alloc: Global, stanzas: &str, essential: bool) -> Option<(u32, u32, u
     ends
 }
 
-fn hold_ends(rt: &(impl Abort + AllocGlobal), rows: &[Ends]) {
+/// What the first row with other ends shows.
+fn wrong_ends(alloc: Global, rows: &[Ends]) -> Option<&'static str> {
     for (shows, stanzas, essential, ends) in rows {
-        let found = ends_of(rt.alloc(), stanzas, *essential);
-        assert_eq!(rt; found, Some(*ends), "{shows}");
+        if ends_of(alloc, stanzas, *essential) != Some(*ends) {
+            return Some(shows);
+        }
     }
+    None
 }
 
 #[test]
 fn the_ends_of_groups(rt: HostRuntime) {
-    hold_ends(&rt, &ENDS);
+    hold(&rt, wrong_ends(rt.alloc(), ENDS));
 }
 
-const LIMITS: [ClauseLimits; 5] = [
+const LIMITS: &[ClauseLimits] = &[
     (15, 33, Some(PushError::TooManyClauses)),
     (16, 32, Some(PushError::TooManyLiterals)),
     (11, 22, Some(PushError::TooManyClauses)),
@@ -272,28 +280,43 @@ const LIMITS: [ClauseLimits; 5] = [
 /// Whether a space has clauses within a row's limits, or is refused as it says.
 fn is_limited(alloc: Global, space: &Space, row: &ClauseLimits) -> bool {
     let (clauses, literals, refusal) = *row;
-    clauses <= MAX_CLAUSES
-        && literals <= MAX_LITERALS
-        && clauses_of(alloc, space, clauses, literals).err() == refusal
+    if clauses > MAX_CLAUSES || literals > MAX_LITERALS {
+        return false;
+    }
+    match clauses_of(alloc, space, clauses, literals) {
+        Ok(set) => {
+            drop(set);
+            refusal.is_none()
+        }
+        Err(error) => refusal == Some(error),
+    }
 }
 
-fn hold_limits(rt: &(impl Abort + AllocGlobal), space: &Space, rows: &[ClauseLimits]) {
-    for row in rows {
-        let holds = is_limited(rt.alloc(), space, row);
-        assert!(rt; holds, "{} clauses, {} literals", row.0, row.1);
+/// The place of the first row within whose limits a space is answered otherwise.
+fn wrong_limit(alloc: Global, space: &Space, rows: &[ClauseLimits]) -> Option<usize> {
+    for place in 0..rows.len() {
+        if !is_limited(alloc, space, &rows[place]) {
+            return Some(place);
+        }
+    }
+    None
+}
+
+/// The same of the space of some stanzas, or the number of rows if there is none.
+fn wrong_limit_of(alloc: Global, stanzas: &str, rows: &[ClauseLimits]) -> Option<usize> {
+    match small_space(alloc, stanzas, false) {
+        Some(space) => {
+            let wrong = wrong_limit(alloc, &space, rows);
+            drop(space);
+            wrong
+        }
+        None => Some(rows.len()),
     }
 }
 
 #[test]
-fn the_limits_of_clauses(rt: HostRuntime) -> Result<(), Fail> {
-    match small_space(rt.alloc(), LIBRARY, false) {
-        Some(space) => {
-            hold_limits(&rt, &space, &LIMITS);
-            drop(space);
-        }
-        None => Err("no space")?,
-    }
-    Ok(())
+fn the_limits_of_clauses(rt: HostRuntime) {
+    assert_eq!(rt; wrong_limit_of(rt.alloc(), LIBRARY, LIMITS), None);
 }
 
 #[test]

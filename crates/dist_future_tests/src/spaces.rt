@@ -44,5 +44,8 @@ pub(crate) fn space_within(
 
 /// The space of some stanzas, which is not large.
 pub(crate) fn small_space(alloc: Global, stanzas: &str, essential: bool) -> Option<Space> {
-    space_within(alloc, stanzas, essential, 1000)?.ok()
+    match space_within(alloc, stanzas, essential, 1000) {
+        Some(Ok(space)) => Some(space),
+        _ => None,
+    }
 }

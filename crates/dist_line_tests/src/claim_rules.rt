@@ -8,7 +8,6 @@ use dist_check_group::{
     ChallengeClaim, Group, Layout, StrongClaim, Window, is_rising, judge_challenge, judge_rules,
 };
 use std::alloc::{AllocError, Global};
-use std::test::Fail;
 
 /// Adds an installation to a group of the package of a variable, and to the latest ones.
 fn install(
@@ -55,7 +54,10 @@ fn judge_filled(
 ) -> Result<Option<CertCause>, AllocError>
     requires { window.old.count < 90 }
 {
-    fill(alloc, &Layout::present(alloc), window, group)?;
+    let layout = Layout::present(alloc);
+    let filled = fill(alloc, &layout, window, group);
+    drop(layout);
+    filled?;
     judge_rules(alloc, window, group, 3, claim)
 }
 
@@ -80,14 +82,35 @@ fn judged(
     verdict
 }
 
+/// The installations that a claim names, its packages, those that it leaves undecided, and what is said of it.
+type Claimed = (
+    &'static [u32],
+    &'static [u32],
+    &'static [u32],
+    Option<CertCause>,
+);
+
+const CLAIMED: &[Claimed] = &[
+    (&[1, 2, 1, 1], &[2], &[], None),
+    (&[1], &[2], &[3], Some(WrongClaim)),
+    (&[1], &[], &[], Some(Incomplete)),
+    (&[3], &[2], &[], Some(WrongClaim)),
+];
+
+/// The place of the first claim of which something else is said.
+fn wrong_claim(alloc: Global, rows: &[Claimed]) -> Option<usize> {
+    for place in 0..rows.len() {
+        let (named, on, undecided, said) = rows[place];
+        if judged(alloc, named, on, undecided) != Ok(said) {
+            return Some(place);
+        }
+    }
+    None
+}
+
 #[test]
-fn claims_are_judged(rt: HostRuntime) -> Result<(), Fail> {
-    let alloc = rt.alloc();
-    assert_eq!(rt; judged(alloc, &[1, 2, 1, 1], &[2], &[])?, None);
-    assert_eq!(rt; judged(alloc, &[1], &[2], &[3])?, Some(WrongClaim));
-    assert_eq!(rt; judged(alloc, &[1], &[], &[])?, Some(Incomplete));
-    assert_eq!(rt; judged(alloc, &[3], &[2], &[])?, Some(WrongClaim));
-    Ok(())
+fn claims_are_judged(rt: HostRuntime) {
+    assert_eq!(rt; wrong_claim(rt.alloc(), CLAIMED), None);
 }
 
 #[test]
@@ -99,14 +122,28 @@ fn questions_of_the_package_are_kept(rt: HostRuntime) {
     assert!(rt; kept);
 }
 
+/// The class of each of two clusters.
+fn two_classes(alloc: Global) -> Result<Flat<u32>, AllocError> {
+    let mut classes = Flat::new(alloc);
+    if classes.push(&[4]).is_ok() && classes.push(&[5]).is_ok() {
+        Ok(classes)
+    } else {
+        drop(classes);
+        Err(AllocError)
+    }
+}
+
 /// Of two packages, each a cluster of its own with one class: variables 2 and 3 are the packages as they are, 4 and 5 put the
 /// clusters at their classes, and 6 and 7 are the new packages.
 fn two_clusters(alloc: Global) -> Result<Layout, AllocError> {
-    let clusters = vec![in alloc; 0u32, 0, 1, 2, 0, 0, 1, 2]?;
-    let mut classes = Flat::new(alloc);
-    classes.push(&[4])?;
-    classes.push(&[5])?;
-    Ok(Layout::new(CertKind::Challenged, clusters, classes))
+    let classes = two_classes(alloc)?;
+    match vec![in alloc; 0u32, 0, 1, 2, 0, 0, 1, 2] {
+        Ok(clusters) => Ok(Layout::new(CertKind::Challenged, clusters, classes)),
+        Err(error) => {
+            drop(classes);
+            Err(error.into())
+        }
+    }
 }
 
 /// What is said of a claim on challenges of the first package, once the second cluster's class was refuted.
@@ -142,18 +179,35 @@ fn challenged(
         undecided: &[],
     };
     let verdict = judge_refuted(alloc, &layout, &mut window, &mut group, &claim);
+    drop(layout);
     drop(window);
     drop(group);
     verdict
 }
 
+/// The installations that a claim names, its challenges, and what is said of it.
+type Challenged = (&'static [u32], &'static [(u32, u32)], Option<CertCause>);
+
+const CHALLENGED: &[Challenged] = &[
+    (&[2, 2], &[(2, 1)], None),
+    (&[2], &[], Some(Incomplete)),
+    (&[1], &[], None),
+    (&[2], &[(1, 1)], Some(WrongClaim)),
+    (&[3], &[(2, 1)], Some(WrongClaim)),
+];
+
+/// The place of the first claim on challenges of which something else is said.
+fn wrong_challenge(alloc: Global, rows: &[Challenged]) -> Option<usize> {
+    for place in 0..rows.len() {
+        let (named, by, said) = rows[place];
+        if challenged(alloc, named, by) != Ok(said) {
+            return Some(place);
+        }
+    }
+    None
+}
+
 #[test]
-fn claims_on_challenges_are_judged(rt: HostRuntime) -> Result<(), Fail> {
-    let alloc = rt.alloc();
-    assert_eq!(rt; challenged(alloc, &[2, 2], &[(2, 1)])?, None);
-    assert_eq!(rt; challenged(alloc, &[2], &[])?, Some(Incomplete));
-    assert_eq!(rt; challenged(alloc, &[1], &[])?, None);
-    assert_eq!(rt; challenged(alloc, &[2], &[(1, 1)])?, Some(WrongClaim));
-    assert_eq!(rt; challenged(alloc, &[3], &[(2, 1)])?, Some(WrongClaim));
-    Ok(())
+fn claims_on_challenges_are_judged(rt: HostRuntime) {
+    assert_eq!(rt; wrong_challenge(rt.alloc(), CHALLENGED), None);
 }

@@ -4,28 +4,38 @@ use dist_cert::CertCause::{self, BadHeader, BadRecord, LineTooLong, Truncated};
 use dist_cert::{CertFault, ReadCertError};
 use dist_outside::{What, WorkError};
 use std::alloc::Global;
-use std::process::Abort;
 
 const FIRST: &str = "distfuture-certificate 1 strong plain 10000 2 2 1\n";
 
-/// Why copying a first line and the text behind it fails, if it does, and how many bytes are written then.
-fn ends(
-    alloc: Global,
-    first: &str,
-    more: &str,
-    from: &Way,
-    to: &Way,
-) -> Option<(Option<ReadCertError>, usize)> {
-    let mut text = first.as_bytes().to_vec(alloc).ok()?;
-    text.extend_from_slice(more.as_bytes()).ok()?;
-    let (answer, written) = copied(alloc, &text, &[], from, to)?;
-    Some((answer.err(), written.len()))
+/// Why copying fails, if it does, and how many bytes are written then.
+type End = (Option<ReadCertError>, usize);
+
+/// How copying a text ends.
+fn ends_of(alloc: Global, text: &[u8], from: &Way, to: &Way) -> Option<End> {
+    let (answer, written) = copied(alloc, text, &[], from, to)?;
+    let length = written.len();
+    drop(written);
+    Some((answer.err(), length))
+}
+
+/// How copying a first line and the text behind it ends.
+fn ends(alloc: Global, first: &str, more: &str, from: &Way, to: &Way) -> Option<End> {
+    let mut text = Vec::new(alloc);
+    let made = text.extend_from_slice(first.as_bytes()).is_ok()
+        && text.extend_from_slice(more.as_bytes()).is_ok();
+    let ends = if made {
+        ends_of(alloc, &text, from, to)
+    } else {
+        None
+    };
+    drop(text);
+    ends
 }
 
 /// A first line, the text behind it, and the line and the cause of the refusal.
 type Refused = (&'static str, &'static str, u64, CertCause);
 
-const REFUSED: [Refused; 36] = [
+const REFUSED: &[Refused] = &[
     // The form of a first line.
     ("\n", "e\n", 1, BadHeader),
     (
@@ -105,27 +115,27 @@ const REFUSED: [Refused; 36] = [
 ];
 
 /// Whether a text is refused as its row says.
-fn is_refused(alloc: Global, row: &Refused) -> Option<bool> {
+fn is_refused(alloc: Global, row: &Refused) -> bool {
     let (first, more, line, cause) = *row;
-    let (error, _) = ends(alloc, first, more, &PLAIN, &PLAIN)?;
-    Some(error == Some(ReadCertError::Bad(CertFault { line, cause })))
+    match ends(alloc, first, more, &PLAIN, &PLAIN) {
+        Some((error, _)) => error == Some(ReadCertError::Bad(CertFault { line, cause })),
+        None => false,
+    }
 }
 
-fn hold_refused(rt: &(impl Abort + AllocGlobal), rows: &[Refused]) {
-    for row in rows {
-        assert_eq!(rt;
-            is_refused(rt.alloc(), row),
-            Some(true),
-            "{:?}{:?}",
-            row.0,
-            row.1
-        );
+/// The place of the first text that is not refused as its row says.
+fn wrong_refusal(alloc: Global, rows: &[Refused]) -> Option<usize> {
+    for place in 0..rows.len() {
+        if !is_refused(alloc, &rows[place]) {
+            return Some(place);
+        }
     }
+    None
 }
 
 #[test]
 fn texts_are_refused(rt: HostRuntime) {
-    hold_refused(&rt, &REFUSED);
+    assert_eq!(rt; wrong_refusal(rt.alloc(), REFUSED), None);
 }
 
 /// The text behind the first line, how it is read and written, why that fails, if it does, and how many bytes are written
@@ -149,7 +159,7 @@ const READ: Option<ReadCertError> = Some(ReadCertError::Work(WorkError::ReadFaul
 
 const WRITE: Option<ReadCertError> = Some(ReadCertError::Work(WorkError::WriteFault));
 
-const STOPPED: [Stopped; 11] = [
+const STOPPED: &[Stopped] = &[
     // The first line has 49 bytes and its line feed. A reader within limits:
     ("u\ne\n", (50, 54, 7, 0), PLAIN, None, 54),
     ("u\ne\n", (49, 54, 7, 0), PLAIN, LONG, 0),
@@ -168,18 +178,24 @@ const STOPPED: [Stopped; 11] = [
 ];
 
 /// Whether copying stops as its row says.
-fn is_stopped(alloc: Global, row: &Stopped) -> Option<bool> {
-    let end = ends(alloc, FIRST, row.0, &row.1, &row.2)?;
-    Some(end == (row.3, row.4))
+fn is_stopped(alloc: Global, row: &Stopped) -> bool {
+    match ends(alloc, FIRST, row.0, &row.1, &row.2) {
+        Some((error, length)) => error == row.3 && length == row.4,
+        None => false,
+    }
 }
 
-fn hold_stopped(rt: &(impl Abort + AllocGlobal), rows: &[Stopped]) {
-    for (number, row) in rows.iter().enumerate() {
-        assert_eq!(rt; is_stopped(rt.alloc(), row), Some(true), "row {number}");
+/// The place of the first copy that does not stop as its row says.
+fn wrong_stop(alloc: Global, rows: &[Stopped]) -> Option<usize> {
+    for place in 0..rows.len() {
+        if !is_stopped(alloc, &rows[place]) {
+            return Some(place);
+        }
     }
+    None
 }
 
 #[test]
 fn a_copy_stops(rt: HostRuntime) {
-    hold_stopped(&rt, &STOPPED);
+    assert_eq!(rt; wrong_stop(rt.alloc(), STOPPED), None);
 }

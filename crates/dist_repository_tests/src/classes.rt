@@ -4,7 +4,7 @@ ghost use Rattle.dist_classes.specs.Answers.{AreClustersOf};
 ghost use Rattle.dist_classes.specs.ClassList.{HasVersions};
 
 use dist_classes::{
-    Class, Classes, CutFinder, class_has_example, class_of, classes_are_there, classes_of,
+    Class, Classes, CutFinder, Names, class_has_example, class_of, classes_are_there, classes_of,
     classes_of_new_name, cuts_are_one, example, new_names, new_names_are_one,
     new_names_match_alike, new_versions_match_alike, no_class_is_empty, print_class,
     repository_clusters, versions_are_in_one_class,
@@ -12,7 +12,7 @@ use dist_classes::{
 use dist_cluster::Clusters;
 use dist_relation::Name;
 use dist_repo::Repository;
-use dist_samples::repository;
+use dist_samples::{hold, repository};
 use dist_version::Version;
 use std::alloc::Global;
 
@@ -25,7 +25,7 @@ const TWO_BOUNDS: Case = (
     ">> 1.0-1, << 2.0 1.0-1A~~~;= 2.0 2.0;>> 2.0, << 3 2.0-0A~;= 3 3;>> 3 3-0A;|>> 1 1-0A;|",
 );
 
-const CASES: [Case; 5] = [
+const CASES: &[Case] = &[
     TWO_BOUNDS,
     // Between a version and the one just above it there is one.
     (
@@ -57,7 +57,9 @@ fn print_with_example(alloc: Global, class: &Class, out: &mut Vec<u8>) -> Option
     print_class(class, out).ok()?;
     out.push(b' ').ok()?;
     let example = example(alloc, class).ok()?;
-    out.extend_from_slice(example.text()).ok()?;
+    let printed = out.extend_from_slice(example.text());
+    drop(example);
+    printed.ok()?;
     out.push(b';').ok()
 }
 
@@ -102,14 +104,27 @@ fn print_clusters(
     Some(())
 }
 
+/// Adds the classes of all clusters, which are those of a repository.
+fn print_found(
+    alloc: Global,
+    repo: &Repository,
+    clusters: &Clusters,
+    out: &mut Vec<u8>,
+) -> Option<()>
+    requires { AreClustersOf repo.now clusters.now }
+{
+    let finder = CutFinder::new(alloc, repo).ok()?;
+    let printed = print_clusters(alloc, &finder, clusters, out);
+    drop(finder);
+    printed
+}
+
 /// Adds the classes of all clusters of a repository.
 fn print_all(alloc: Global, repo: &Repository, out: &mut Vec<u8>) -> Option<()>
     requires { length repo.now.packages < 100 }
 {
     let clusters = repository_clusters(alloc, repo).ok()?;
-    let finder = CutFinder::new(alloc, repo).ok()?;
-    let printed = print_clusters(alloc, &finder, &clusters, out);
-    drop(finder);
+    let printed = print_found(alloc, repo, &clusters, out);
     drop(clusters);
     printed
 }
@@ -124,22 +139,31 @@ fn print_name(alloc: Global, repo: &Repository, name: &Name, out: &mut Vec<u8>) 
     printed
 }
 
-/// Adds all new names.
-fn print_names(alloc: Global, repo: &Repository, out: &mut Vec<u8>) -> Option<()> {
-    let names = new_names(alloc, repo).ok()?;
+/// Adds these names.
+fn print_each(alloc: Global, repo: &Repository, names: &Names, out: &mut Vec<u8>) -> Option<()> {
     for place in 0..names.len() {
         print_name(alloc, repo, names.get(place), out)?;
     }
     Some(())
 }
 
+/// Adds all new names.
+fn print_names(alloc: Global, repo: &Repository, out: &mut Vec<u8>) -> Option<()> {
+    let names = new_names(alloc, repo).ok()?;
+    let printed = print_each(alloc, repo, &names, out);
+    drop(names);
+    printed
+}
+
 /// Whether the classes of all clusters and of all new names are these.
 fn are(alloc: Global, repo: &Repository, expected: &str) -> bool {
     let mut out = Vec::new(alloc);
-    repo.len() == 2
+    let same = repo.len() == 2
         && print_all(alloc, repo, &mut out).is_some()
         && print_names(alloc, repo, &mut out).is_some()
-        && out.as_slice() == expected.as_bytes()
+        && out.as_slice() == expected.as_bytes();
+    drop(out);
+    same
 }
 
 /// Whether a case is as expected.
@@ -166,11 +190,14 @@ fn first_wrong(alloc: Global, cases: &[Case]) -> Option<usize> {
 
 #[test]
 fn classes_are_cut_at_bounds(rt: HostRuntime) {
-    assert!(rt; first_wrong(rt.alloc(), &CASES).is_none());
+    assert!(rt; first_wrong(rt.alloc(), CASES).is_none());
 }
 
+/// A version, and the number of its class, if it has one.
+type Numbered = (&'static str, Option<u32>);
+
 /// Versions, each with the number of its class above 1.0-1 between the two bounds, if it has one.
-const NUMBERS: [(&str, Option<u32>); 3] = [("1.0-1", None), ("2.0-0", Some(1)), ("9", Some(4))];
+const NUMBERS: &[Numbered] = &[("1.0-1", None), ("2.0-0", Some(1)), ("9", Some(4))];
 
 /// The classes above the first package of a repository.
 fn classes_above_first(alloc: Global, repo: &Repository) -> Option<Classes> {
@@ -181,32 +208,54 @@ fn classes_above_first(alloc: Global, repo: &Repository) -> Option<Classes> {
 }
 
 /// Whether a version has this number.
-fn has_number(alloc: Global, classes: &Classes, row: &(&'static str, Option<u32>)) -> bool {
+fn has_number(alloc: Global, classes: &Classes, row: &Numbered) -> bool {
     match Version::read(alloc, row.0.as_bytes()) {
-        Ok(version) => class_of(classes, &version) == row.1,
+        Ok(version) => {
+            let number = class_of(classes, &version);
+            drop(version);
+            number == row.1
+        }
         Err(_) => false,
     }
 }
 
-/// Whether all versions have their numbers among the classes above the first package of some stanzas.
-fn have_numbers(
-    alloc: Global,
-    stanzas: &str,
-    rows: &[(&'static str, Option<u32>)],
-) -> Option<bool> {
-    let repo = repository(alloc, stanzas)?;
-    let classes = classes_above_first(alloc, &repo);
-    drop(repo);
-    let classes = classes?;
-    Some(rows.iter().all(|row| has_number(alloc, &classes, row)))
+/// The first version of another number.
+fn wrong_number(alloc: Global, classes: &Classes, rows: &[Numbered]) -> Option<&'static str> {
+    for row in rows {
+        if !has_number(alloc, classes, row) {
+            return Some(row.0);
+        }
+    }
+    None
+}
+
+/// The same among the classes above the first package of a repository.
+fn wrong_above_first(alloc: Global, repo: &Repository, rows: &[Numbered]) -> Option<&'static str> {
+    match classes_above_first(alloc, repo) {
+        Some(classes) => {
+            let wrong = wrong_number(alloc, &classes, rows);
+            drop(classes);
+            wrong
+        }
+        None => Some("no classes"),
+    }
+}
+
+/// The same of the repository of some stanzas.
+fn wrong_of(alloc: Global, stanzas: &str, rows: &[Numbered]) -> Option<&'static str> {
+    match repository(alloc, stanzas) {
+        Some(repo) => {
+            let wrong = wrong_above_first(alloc, &repo, rows);
+            drop(repo);
+            wrong
+        }
+        None => Some("no repository"),
+    }
 }
 
 #[test]
 fn versions_are_of_one_class(rt: HostRuntime) {
-    assert_eq!(rt;
-        have_numbers(rt.alloc(), TWO_BOUNDS.0, &NUMBERS),
-        Some(true)
-    );
+    hold(&rt, wrong_of(rt.alloc(), TWO_BOUNDS.0, NUMBERS));
 }
 
 #[test]

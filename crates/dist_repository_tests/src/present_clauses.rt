@@ -8,8 +8,6 @@ use dist_now::{
 use dist_repo::Repository;
 use dist_samples::{ClauseLimits, has, repository};
 use std::alloc::Global;
-use std::process::Abort;
-use std::test::Fail;
 
 const NEEDS_ENEMY: &str =
     "Package: a\nVersion: 1\nDepends: b\n\nPackage: b\nVersion: 1\nConflicts: a\n";
@@ -26,7 +24,7 @@ const BASE: &str =
 /// Stanzas and how many they are, a mode, and their clauses.
 type Clauses = (&'static str, u32, bool, &'static [&'static [i32]]);
 
-const CLAUSES: [Clauses; 6] = [
+const CLAUSES: &[Clauses] = &[
     (NEEDS_ENEMY, 2, false, &[&[-1, 2], &[-1, -2]]),
     (VERSIONS, 3, false, &[&[-3, 2], &[-1, -2], &[-1, -3]]),
     (AGENTS, 3, false, &[&[-2, 1, 3], &[-2, 1], &[-1, -3]]),
@@ -46,32 +44,43 @@ fn has_clauses(
         return false;
     }
     match clauses_of(alloc, repository, essential, MAX_CLAUSES, MAX_LITERALS) {
-        Ok(set) => set.variables() == repository.len() && has(&set, clauses),
+        Ok(set) => {
+            let made = set.variables() == repository.len() && has(&set, clauses);
+            drop(set);
+            made
+        }
         Err(_) => false,
     }
 }
 
 /// Whether a row's stanzas are so many packages, and have exactly its clauses.
-fn is_made(alloc: Global, row: &Clauses) -> Option<bool> {
-    let (stanzas, packages, essential, clauses) = *row;
-    let repository = repository(alloc, stanzas)?;
-    let made = repository.len() == packages && has_clauses(alloc, &repository, essential, clauses);
-    drop(repository);
-    Some(made)
+fn is_made(alloc: Global, row: &Clauses) -> bool {
+    match repository(alloc, row.0) {
+        Some(repository) => {
+            let made = repository.len() == row.1 && has_clauses(alloc, &repository, row.2, row.3);
+            drop(repository);
+            made
+        }
+        None => false,
+    }
 }
 
-fn hold_clauses(rt: &(impl Abort + AllocGlobal), rows: &[Clauses]) {
-    for (number, row) in rows.iter().enumerate() {
-        assert_eq!(rt; is_made(rt.alloc(), row), Some(true), "row {number}");
+/// The place of the first row with other clauses.
+fn wrong_clauses(alloc: Global, rows: &[Clauses]) -> Option<usize> {
+    for place in 0..rows.len() {
+        if !is_made(alloc, &rows[place]) {
+            return Some(place);
+        }
     }
+    None
 }
 
 #[test]
 fn the_clauses_of_small_repositories(rt: HostRuntime) {
-    hold_clauses(&rt, &CLAUSES);
+    assert_eq!(rt; wrong_clauses(rt.alloc(), CLAUSES), None);
 }
 
-const LIMITS: [ClauseLimits; 6] = [
+const LIMITS: &[ClauseLimits] = &[
     (1, 4, Some(PushError::TooManyClauses)),
     (2, 3, Some(PushError::TooManyLiterals)),
     (1, 3, Some(PushError::TooManyClauses)),
@@ -86,26 +95,40 @@ fn is_limited(alloc: Global, repository: &Repository, row: &ClauseLimits) -> boo
     if repository.len() > MAX_PACKAGES || clauses > MAX_CLAUSES || literals > MAX_LITERALS {
         return false;
     }
-    clauses_of(alloc, repository, false, clauses, literals).err() == refusal
+    match clauses_of(alloc, repository, false, clauses, literals) {
+        Ok(set) => {
+            drop(set);
+            refusal.is_none()
+        }
+        Err(error) => refusal == Some(error),
+    }
 }
 
-fn hold_limits(rt: &(impl Abort + AllocGlobal), repository: &Repository, rows: &[ClauseLimits]) {
-    for row in rows {
-        let holds = is_limited(rt.alloc(), repository, row);
-        assert!(rt; holds, "{} clauses, {} literals", row.0, row.1);
+/// The place of the first row within whose limits a repository is answered otherwise.
+fn wrong_limit(alloc: Global, repository: &Repository, rows: &[ClauseLimits]) -> Option<usize> {
+    for place in 0..rows.len() {
+        if !is_limited(alloc, repository, &rows[place]) {
+            return Some(place);
+        }
+    }
+    None
+}
+
+/// The same of the repository of some stanzas, and of none if it is not there.
+fn wrong_limit_of(alloc: Global, stanzas: &str, rows: &[ClauseLimits]) -> Option<usize> {
+    match repository(alloc, stanzas) {
+        Some(repository) => {
+            let wrong = wrong_limit(alloc, &repository, rows);
+            drop(repository);
+            wrong
+        }
+        None => Some(rows.len()),
     }
 }
 
 #[test]
-fn the_limits_of_clauses(rt: HostRuntime) -> Result<(), Fail> {
-    match repository(rt.alloc(), NEEDS_ENEMY) {
-        Some(repository) => {
-            hold_limits(&rt, &repository, &LIMITS);
-            drop(repository);
-        }
-        None => Err("no repository")?,
-    }
-    Ok(())
+fn the_limits_of_clauses(rt: HostRuntime) {
+    assert_eq!(rt; wrong_limit_of(rt.alloc(), NEEDS_ENEMY, LIMITS), None);
 }
 
 #[test]

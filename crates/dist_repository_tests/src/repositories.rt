@@ -77,7 +77,11 @@ fn is_found(
     number: Option<u32>,
 ) -> bool {
     match Version::read(alloc, key.1.as_bytes()) {
-        Ok(version) => repository.find(key.0.as_bytes(), &version) == number,
+        Ok(version) => {
+            let found = repository.find(key.0.as_bytes(), &version);
+            drop(version);
+            found == number
+        }
         Err(_) => false,
     }
 }
@@ -235,12 +239,12 @@ fn first_wrong(alloc: Global, rows: &[Stated]) -> Option<usize> {
     None
 }
 
-const NUMBERS: [Stated; 2] = [
+const NUMBERS: &[Stated] = &[
     (THREE, Fact::Number("a", "1.0-0", Some(0))),
     (THREE, Fact::Number("b", "2", None)),
 ];
 
-const PROVIDERS: [Stated; 5] = [
+const PROVIDERS: &[Stated] = &[
     (THREE, Fact::Providers("a", &[0, 1])),
     (LINKED, Fact::OfAlternative(1, 0, &[2])),
     (LINKED, Fact::OfAlternative(1, 1, &[1])),
@@ -248,7 +252,7 @@ const PROVIDERS: [Stated; 5] = [
     (LINKED, Fact::OfConflict(1, &[1])),
 ];
 
-const WHOLES: [Stated; 4] = [
+const WHOLES: &[Stated] = &[
     (THREE, Fact::Shape(3, false)),
     (THREE, Fact::Newest(2, 1)),
     (LINKED, Fact::Shape(3, true)),
@@ -257,23 +261,23 @@ const WHOLES: [Stated; 4] = [
 
 #[test]
 fn versions_of_a_name(rt: HostRuntime) {
-    assert_eq!(rt; first_wrong(rt.alloc(), &NUMBERS), None);
+    assert_eq!(rt; first_wrong(rt.alloc(), NUMBERS), None);
 }
 
 #[test]
 fn providers_of_names_and_atoms(rt: HostRuntime) {
-    assert_eq!(rt; first_wrong(rt.alloc(), &PROVIDERS), None);
+    assert_eq!(rt; first_wrong(rt.alloc(), PROVIDERS), None);
 }
 
 #[test]
 fn newest_versions_and_whole_repositories(rt: HostRuntime) {
-    assert_eq!(rt; first_wrong(rt.alloc(), &WHOLES), None);
+    assert_eq!(rt; first_wrong(rt.alloc(), WHOLES), None);
 }
 
 /// An atom that a depends on or conflicts with, what y provides, and the answer.
 type Row = (&'static str, &'static str, bool);
 
-const MATCHES: [Row; 14] = [
+const MATCHES: &[Row] = &[
     ("y", "", true),
     ("y (>> 1)", "", false),
     ("y (= 0:1-0)", "", true),
@@ -290,7 +294,7 @@ const MATCHES: [Row; 14] = [
     ("x", "x:i386", false),
 ];
 
-const USABLE: [Row; 6] = [
+const USABLE: &[Row] = &[
     ("x", "", true),
     ("x:any", "", true),
     ("x:native", "", true),
@@ -299,7 +303,7 @@ const USABLE: [Row; 6] = [
     ("x:i386", "", false),
 ];
 
-const CONFLICTS: [Row; 7] = [
+const CONFLICTS: &[Row] = &[
     ("y", "", true),
     ("y (<< 1)", "", false),
     ("y:i386", "", false),
@@ -324,7 +328,11 @@ fn text_of(alloc: Global, question: Question, row: &Row) -> Result<String, Alloc
 /// Whether a row is answered as it says.
 fn is_answered(alloc: Global, question: Question, row: &Row) -> bool {
     match text_of(alloc, question, row) {
-        Ok(text) => holds_of(alloc, text.as_str(), Fact::Answer(question, row.2)),
+        Ok(text) => {
+            let told = holds_of(alloc, text.as_str(), Fact::Answer(question, row.2));
+            drop(text);
+            told
+        }
         Err(_) => false,
     }
 }
@@ -342,7 +350,7 @@ fn first_answered_otherwise(alloc: Global, question: Question, rows: &[Row]) -> 
 #[test]
 fn matches(rt: HostRuntime) {
     assert_eq!(rt;
-        first_answered_otherwise(rt.alloc(), Question::Matches, &MATCHES),
+        first_answered_otherwise(rt.alloc(), Question::Matches, MATCHES),
         None
     );
 }
@@ -350,7 +358,7 @@ fn matches(rt: HostRuntime) {
 #[test]
 fn usable(rt: HostRuntime) {
     assert_eq!(rt;
-        first_answered_otherwise(rt.alloc(), Question::Usable, &USABLE),
+        first_answered_otherwise(rt.alloc(), Question::Usable, USABLE),
         None
     );
 }
@@ -358,7 +366,7 @@ fn usable(rt: HostRuntime) {
 #[test]
 fn conflicts(rt: HostRuntime) {
     assert_eq!(rt;
-        first_answered_otherwise(rt.alloc(), Question::Conflict, &CONFLICTS),
+        first_answered_otherwise(rt.alloc(), Question::Conflict, CONFLICTS),
         None
     );
 }

@@ -6,11 +6,10 @@ use dist_budget::{budgets_are_enough, explanation_budgets_are_enough, repair_bud
 use dist_cert::Claims;
 use dist_outside::{Limits, MemoryDesk, What, WorkError};
 use dist_repo::Repository;
-use dist_samples::{Said, TWO, is_held, limited, repository};
+use dist_samples::{Said, TWO, hold, is_held, limited, repository};
 use dist_strong::strong;
 use dist_verdicts::{are_said, is_accepted};
 use std::alloc::Global;
-use std::process::Abort;
 
 /// No strong dependency.
 const NONE: Said = Said::Strong(&[], &[]);
@@ -82,7 +81,7 @@ const CROWDED: [Said; 21] = [
     Said::Unknown,
 ];
 
-const CLAIMED: [Claimed; 11] = [
+const CLAIMED: &[Claimed] = &[
     ("", false, 10000, &[]),
     (ONE, false, 10000, &[NONE]),
     (DIAMOND, false, 10000, &[ON_LAST, ON_LAST, ON_LAST, NONE]),
@@ -136,32 +135,85 @@ fn swept(
     requires limits { AreStated limits.now }
     requires idle { IsNotWriting desk.old.mode }
 {
-    swept_over(alloc, &repository(alloc, stanzas)?, asked, limits, desk)
+    let repository = repository(alloc, stanzas)?;
+    let swept = swept_over(alloc, &repository, asked, limits, desk);
+    drop(repository);
+    swept
 }
 
-/// Whether the sweep of a row ends with its claims, within the stated limits, and its certificate is accepted.
-fn are_claimed(alloc: Global, row: &Claimed) -> Option<bool> {
-    let mut desk = MemoryDesk::new(alloc, 4096, &[]).ok()?;
-    let answer = swept(alloc, row.0, (row.1, row.2), &Limits::stated(), &mut desk)?;
-    Some(are_said(&answer.ok()?, row.3) && is_accepted(alloc, row.0, desk.get("c")?))
-}
-
-fn hold_claimed(rt: &(impl Abort + AllocGlobal), rows: &[Claimed]) {
-    for row in rows {
-        let holds = are_claimed(rt.alloc(), row);
-        assert_eq!(rt; holds, Some(true), "{}, essential: {}", row.0, row.1);
+/// Why a sweep over some stanzas ends without claims, if it does; nothing if it is not asked.
+fn end_of(
+    alloc: Global,
+    stanzas: &str,
+    asked: (bool, u32),
+    limits: &Limits,
+    desk: &mut MemoryDesk,
+) -> Option<Option<WorkError>>
+    requires limits { AreStated limits.now }
+    requires idle { IsNotWriting desk.old.mode }
+{
+    match swept(alloc, stanzas, asked, limits, desk)? {
+        Ok(claims) => {
+            drop(claims);
+            Some(None)
+        }
+        Err(error) => Some(Some(error)),
     }
+}
+
+/// Whether the sweep of a row on a desk ends with its claims, within the stated limits, and its certificate is accepted.
+fn are_claimed_on(alloc: Global, desk: &mut MemoryDesk, row: &Claimed) -> bool
+    requires { IsNotWriting desk.old.mode }
+{
+    match swept(alloc, row.0, (row.1, row.2), &Limits::stated(), desk) {
+        Some(Ok(claims)) => {
+            let said = are_said(&claims, row.3);
+            drop(claims);
+            said && has_accepted(alloc, desk, row.0)
+        }
+        _ => false,
+    }
+}
+
+/// Whether the certificate on a desk is accepted over some stanzas.
+fn has_accepted(alloc: Global, desk: &MemoryDesk, stanzas: &str) -> bool {
+    match desk.get("c") {
+        Some(text) => is_accepted(alloc, stanzas, text),
+        None => false,
+    }
+}
+
+/// The same on a desk of its own.
+fn are_claimed(alloc: Global, row: &Claimed) -> bool {
+    match MemoryDesk::new(alloc, 4096, &[]) {
+        Ok(mut desk) => {
+            let claimed = are_claimed_on(alloc, &mut desk, row);
+            drop(desk);
+            claimed
+        }
+        Err(_) => false,
+    }
+}
+
+/// The place of the first row with other claims.
+fn wrong_claims(alloc: Global, rows: &[Claimed]) -> Option<usize> {
+    for place in 0..rows.len() {
+        if !are_claimed(alloc, &rows[place]) {
+            return Some(place);
+        }
+    }
+    None
 }
 
 #[test]
 fn strong_dependencies_are_those_of_all_installations(rt: HostRuntime) {
-    hold_claimed(&rt, &CLAIMED);
+    assert_eq!(rt; wrong_claims(rt.alloc(), CLAIMED), None);
 }
 
 /// Stanzas, a mode, the certificate of a sweep or its front, and whether it is whole.
 type Written = (&'static str, bool, &'static str, bool);
 
-const WRITTEN: [Written; 3] = [
+const WRITTEN: &[Written] = &[
     (
         "",
         false,
@@ -182,30 +234,49 @@ const WRITTEN: [Written; 3] = [
     ),
 ];
 
-/// Whether the certificate of a row is its text, or begins with it where that is not whole.
-fn is_written(alloc: Global, row: &Written) -> Option<bool> {
-    let mut desk = MemoryDesk::new(alloc, 7, &[]).ok()?;
-    let answer = swept(alloc, row.0, (row.1, 10000), &Limits::stated(), &mut desk)?;
-    let file = desk.get("c")?;
-    let whole = file.len() == row.2.len() || !row.3;
-    Some(answer.is_ok() && whole && file.starts_with(row.2.as_bytes()))
+/// Whether a file is a row's text, or begins with it where that is not whole.
+fn is_text(file: Option<&[u8]>, row: &Written) -> bool {
+    match file {
+        Some(file) => {
+            (file.len() == row.2.len() || !row.3) && file.starts_with(row.2.as_bytes())
+        }
+        None => false,
+    }
 }
 
-fn hold_written(rt: &(impl Abort + AllocGlobal), rows: &[Written]) {
-    for row in rows {
-        assert_eq!(rt; is_written(rt.alloc(), row), Some(true), "{}", row.2);
+/// Whether the certificate of a row is its text, or begins with it where that is not whole.
+fn is_written(alloc: Global, row: &Written) -> bool {
+    match MemoryDesk::new(alloc, 7, &[]) {
+        Ok(mut desk) => {
+            let asked = (row.1, 10000);
+            let end = end_of(alloc, row.0, asked, &Limits::stated(), &mut desk);
+            let written = is_text(desk.get("c"), row);
+            drop(desk);
+            end == Some(None) && written
+        }
+        Err(_) => false,
     }
+}
+
+/// The first text that another certificate has.
+fn wrong_certificate(alloc: Global, rows: &[Written]) -> Option<&'static str> {
+    for row in rows {
+        if !is_written(alloc, row) {
+            return Some(row.2);
+        }
+    }
+    None
 }
 
 #[test]
 fn certificates_have_these_lines(rt: HostRuntime) {
-    hold_written(&rt, &WRITTEN);
+    hold(&rt, wrong_certificate(rt.alloc(), WRITTEN));
 }
 
 /// The most that a call of the desk moves, the call that fails, and the file that a sweep over no packages leaves.
 type Leaving = (usize, u64, Option<&'static str>);
 
-const LEAVING: [Leaving; 5] = [
+const LEAVING: &[Leaving] = &[
     (100, 1, None),
     (100, 2, Some("")),
     (10, 3, Some("distfuture")),
@@ -218,24 +289,34 @@ const LEAVING: [Leaving; 5] = [
 ];
 
 /// Whether a sweep over no packages is told as a fault of writing, and leaves the file of a row.
-fn leaves(alloc: Global, row: &Leaving) -> Option<bool> {
+fn leaves(alloc: Global, row: &Leaving) -> bool {
     if row.0 == 0 {
-        return None;
+        return false;
     }
-    let mut desk = MemoryDesk::new(alloc, row.0, &[row.1]).ok()?;
-    let answer = swept(alloc, "", (false, 10000), &Limits::stated(), &mut desk)?;
-    Some(answer.err() == Some(WorkError::WriteFault) && is_held(desk.get("c"), row.2))
+    match MemoryDesk::new(alloc, row.0, &[row.1]) {
+        Ok(mut desk) => {
+            let end = end_of(alloc, "", (false, 10000), &Limits::stated(), &mut desk);
+            let held = is_held(desk.get("c"), row.2);
+            drop(desk);
+            end == Some(Some(WorkError::WriteFault)) && held
+        }
+        Err(_) => false,
+    }
 }
 
-fn hold_leaving(rt: &(impl Abort + AllocGlobal), rows: &[Leaving]) {
-    for row in rows {
-        assert_eq!(rt; leaves(rt.alloc(), row), Some(true), "{}, {}", row.0, row.1);
+/// The place of the first row that leaves another file.
+fn wrong_leaving(alloc: Global, rows: &[Leaving]) -> Option<usize> {
+    for place in 0..rows.len() {
+        if !leaves(alloc, &rows[place]) {
+            return Some(place);
+        }
     }
+    None
 }
 
 #[test]
 fn a_fault_of_the_desk_leaves_what_was_written(rt: HostRuntime) {
-    hold_leaving(&rt, &LEAVING);
+    assert_eq!(rt; wrong_leaving(rt.alloc(), LEAVING), None);
 }
 
 /// Stanzas, a number that their sweep passes, and the file that is left.
@@ -245,7 +326,7 @@ type Stopping = (&'static str, What, u32, Option<&'static str>);
 const BEFORE: &str =
     "distfuture-certificate 1 strong plain 10000 5 5 6\nq 1\nm 1\ns 1 1 0 0\nq 2\nm 2\ns 2 2 0 0\nq 3\nm 3\ns 3 3 0 0\nq 4\nm 4\ns 4 4 0 0\nq 5\n";
 
-const STOPPING: [Stopping; 7] = [
+const STOPPING: &[Stopping] = &[
     (APART, What::Clauses, 1, None),
     (APART, What::Literals, 3, None),
     ("", What::RecordLine, 49, Some("")),
@@ -256,23 +337,33 @@ const STOPPING: [Stopping; 7] = [
 ];
 
 /// Whether a sweep stops at a row's number, and leaves its file.
-fn stops(alloc: Global, row: &Stopping) -> Option<bool> {
+fn stops(alloc: Global, row: &Stopping) -> bool {
     let (stanzas, what, number, file) = *row;
-    let mut desk = MemoryDesk::new(alloc, 4096, &[]).ok()?;
-    let limits = limited(what, number);
-    let answer = swept(alloc, stanzas, (false, 10000), &limits, &mut desk)?;
-    Some(answer.err() == Some(WorkError::TooLarge(what)) && is_held(desk.get("c"), file))
+    match MemoryDesk::new(alloc, 4096, &[]) {
+        Ok(mut desk) => {
+            let limits = limited(what, number);
+            let end = end_of(alloc, stanzas, (false, 10000), &limits, &mut desk);
+            let held = is_held(desk.get("c"), file);
+            drop(desk);
+            end == Some(Some(WorkError::TooLarge(what))) && held
+        }
+        Err(_) => false,
+    }
 }
 
-fn hold_stopping(rt: &(impl Abort + AllocGlobal), rows: &[Stopping]) {
-    for row in rows {
-        assert_eq!(rt; stops(rt.alloc(), row), Some(true), "{}, {}", row.0, row.2);
+/// The place of the first row that stops otherwise.
+fn wrong_stop(alloc: Global, rows: &[Stopping]) -> Option<usize> {
+    for place in 0..rows.len() {
+        if !stops(alloc, &rows[place]) {
+            return Some(place);
+        }
     }
+    None
 }
 
 #[test]
 fn a_limit_stops_before_the_line_that_passes_it(rt: HostRuntime) {
-    hold_stopping(&rt, &STOPPING);
+    assert_eq!(rt; wrong_stop(rt.alloc(), STOPPING), None);
 }
 
 #[test]

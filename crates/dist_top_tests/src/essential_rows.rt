@@ -1,8 +1,7 @@
 //! Worked rows of essential packages, whose names every healthy installation has where the flag stands.
 use dist_app::Status;
 use dist_top_rows::strong_rows::NONE;
-use dist_top_rows::{After, EMPTY, Row, Table, first_wrong};
-use std::test::Fail;
+use dist_top_rows::{After, EMPTY, Row, Table, first_wrong, hold};
 
 const BASE: &str =
     "Package: a\nVersion: 1\n\nPackage: b\nVersion: 1\nConflicts: base\n\nPackage: base\nVersion: 1\nEssential: yes\n";
@@ -44,7 +43,7 @@ undecided_pairs: []
     ..NONE
 };
 
-const FLAG: [Row; 2] = [
+const FLAG: &[Row] = &[
     ESSENTIAL,
     Row {
         words: &["strong", "packages", "cert"],
@@ -63,7 +62,7 @@ undecided_pairs: []
 ];
 
 // A name is met by any version, one that is not essential too.
-const VERSIONS: [Row; 3] = [
+const VERSIONS: &[Row] = &[
     Row {
         packages: "Package: a
 Version: 1
@@ -143,7 +142,7 @@ const ACCEPTED: Row = Row {
 };
 
 // The certificate of the flag speaks of the clauses of its mode.
-const OTHERS: [Row; 3] = [
+const OTHERS: &[Row] = &[
     ACCEPTED,
     Row {
         cert: Some(
@@ -162,14 +161,13 @@ const OTHERS: [Row; 3] = [
     },
 ];
 
-const TABLES: [Table; 3] = [
-    ("the flag reaches the certificate", &FLAG),
-    ("any version meets an essential name", &VERSIONS),
-    ("the flag is of strong alone", &OTHERS),
+const TABLES: &[Table] = &[
+    ("the flag reaches the certificate", FLAG),
+    ("any version meets an essential name", VERSIONS),
+    ("the flag is of strong alone", OTHERS),
 ];
 
 #[test]
-fn essential_names_are_kept(rt: HostRuntime) -> Result<(), Fail> {
-    assert_eq!(rt; first_wrong(rt.alloc(), &TABLES)?, None);
-    Ok(())
+fn essential_names_are_kept(rt: HostRuntime) {
+    hold(&rt, first_wrong(rt.alloc(), TABLES));
 }

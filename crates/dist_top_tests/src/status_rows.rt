@@ -1,11 +1,9 @@
 //! Each status with its number and its line, but for want of memory, which has a file of its own.
 use dist_top_rows::{
-    Row, check_rows, classes_rows, explain_rows, follow_rows, health_rows, steps_rows, strong_rows,
-    words_rows, wrong_of,
+    Row, Wrong, check_rows, classes_rows, explain_rows, follow_rows, health_rows, hold, steps_rows,
+    strong_rows, words_rows, wrong_of,
 };
-use std::alloc::AllocError;
-use std::process::Abort;
-use std::test::Fail;
+use std::alloc::{AllocError, Global};
 
 const NUMBERED: &[(u8, Row)] = &[
     (0, check_rows::TEN),
@@ -23,23 +21,27 @@ const NUMBERED: &[(u8, Row)] = &[
     (13, explain_rows::NO_SUCH_PACKAGE),
 ];
 
-/// A row must come to what it says, and its status have this number.
-fn has_number(rt: &(impl Abort + AllocGlobal), number: u8, row: &Row) -> Result<(), AllocError> {
-    assert_eq!(rt; row.status.number(), number);
-    let wrong = wrong_of(rt.alloc(), row)?;
-    assert_eq!(rt; wrong, None, "status {number}");
-    Ok(())
+/// What is wrong in a row or in the number of its status, if anything is.
+fn wrong_number(alloc: Global, number: u8, row: &Row) -> Result<Option<&'static str>, AllocError> {
+    if row.status.number() == number {
+        wrong_of(alloc, row)
+    } else {
+        Ok(Some("the number"))
+    }
 }
 
-/// Each row must come to what it says, and its status have its number.
-fn have_numbers(rt: &(impl Abort + AllocGlobal), numbered: &[(u8, Row)]) -> Result<(), AllocError> {
-    for (number, row) in numbered {
-        has_number(rt, *number, row)?;
+/// What is wrong in the first row that does not come to what it says, or whose status has another number.
+fn first_wrong_number(alloc: Global, rows: &[(u8, Row)]) -> Result<Option<Wrong>, AllocError> {
+    for row in 0..rows.len() {
+        if let Some(what) = wrong_number(alloc, rows[row].0, &rows[row].1)? {
+            let table = "each status has its line";
+            return Ok(Some(Wrong { table, row, what }));
+        }
     }
-    Ok(())
+    Ok(None)
 }
 
 #[test]
-fn each_status_has_its_line(rt: HostRuntime) -> Result<(), Fail> {
-    Ok(have_numbers(&rt, NUMBERED)?)
+fn each_status_has_its_line(rt: HostRuntime) {
+    hold(&rt, first_wrong_number(rt.alloc(), NUMBERED));
 }

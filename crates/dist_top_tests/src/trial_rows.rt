@@ -1,7 +1,6 @@
 //! Trials.
 use dist_top_rows::trial_rows::{STOPPED, TRIAL};
-use dist_top_rows::{Row, Table, first_wrong};
-use std::test::Fail;
+use dist_top_rows::{Row, Table, first_wrong, hold};
 
 // A larger one, which comes to the same each time.
 const LARGER: Row = Row {
@@ -10,13 +9,12 @@ const LARGER: Row = Row {
     ..TRIAL
 };
 
-const TABLES: [Table; 2] = [
+const TABLES: &[Table] = &[
     ("a trial is told", &[TRIAL, LARGER, LARGER]),
     ("a number is kept", &[STOPPED]),
 ];
 
 #[test]
-fn trials_are_told(rt: HostRuntime) -> Result<(), Fail> {
-    assert_eq!(rt; first_wrong(rt.alloc(), &TABLES)?, None);
-    Ok(())
+fn trials_are_told(rt: HostRuntime) {
+    hold(&rt, first_wrong(rt.alloc(), TABLES));
 }

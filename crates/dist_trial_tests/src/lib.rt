@@ -10,23 +10,36 @@ ghost use Rattle.std.specs.Prelude.{◌≤◌};
 ghost use Rattle.dist_base.specs.declared.TheConstants.{MAX_SIZE};
 
 use dist_outside::{Limits, WorkError};
-use dist_trial::trial;
+use dist_trial::{Trial, trial};
 use std::alloc::Global;
 use std::test::Fail;
+
+/// Whether another trial of this size and seed tells the same as a first one.
+fn is_told_again(alloc: Global, size: u32, seed: u32, first: &Trial) -> Result<bool, WorkError>
+    requires some { 1 ≤ size }
+    requires few { size ≤ MAX_SIZE }
+{
+    let second = trial(alloc, size, seed, &Limits::stated())?;
+    let same = first.summary == second.summary;
+    drop(second);
+    Ok(same)
+}
+
+/// Whether all three certificates of a trial are accepted, and nothing is undecided.
+fn is_decided(first: &Trial) -> bool {
+    first.summary.ends_with(b"\nundecided 0\naccepted 3\n") && !first.undecided
+}
 
 /// Whether two trials of this size and seed tell the same, all three certificates are accepted, and nothing is undecided.
 fn is_told_twice(alloc: Global, size: u32, seed: u32) -> Result<bool, WorkError>
     requires some { 1 ≤ size }
     requires few { size ≤ MAX_SIZE }
 {
-    let limits = Limits::stated();
-    let first = trial(alloc, size, seed, &limits)?;
-    let second = trial(alloc, size, seed, &limits)?;
-    Ok(
-        first.summary == second.summary
-            && first.summary.ends_with(b"\nundecided 0\naccepted 3\n")
-            && !first.undecided,
-    )
+    let first = trial(alloc, size, seed, &Limits::stated())?;
+    let again = is_told_again(alloc, size, seed, &first);
+    let decided = is_decided(&first);
+    drop(first);
+    Ok(again? && decided)
 }
 
 #[test]

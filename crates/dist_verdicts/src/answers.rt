@@ -25,8 +25,12 @@ fn answer_over(
         return None;
     }
     let mut desk = MemoryDesk::new(alloc, 7, &[failing.0]).ok()?;
-    desk.put("c", text).ok()?;
-    Some(check(alloc, repository, &mut desk, failing.1, limits))
+    let answer = match desk.put("c", text) {
+        Ok(()) => Some(check(alloc, repository, &mut desk, failing.1, limits)),
+        Err(_) => None,
+    };
+    drop(desk);
+    answer
 }
 
 /// What the check of a text over some stanzas answers, where a call of the desk fails and a file is asked for.
@@ -39,7 +43,10 @@ pub fn answer_at(
 ) -> Option<Answer>
     requires { AreStated limits.now }
 {
-    answer_over(alloc, &repository(alloc, stanzas)?, text, limits, failing)
+    let repository = repository(alloc, stanzas)?;
+    let answer = answer_over(alloc, &repository, text, limits, failing);
+    drop(repository);
+    answer
 }
 
 /// What the check of a text over some stanzas answers.
@@ -51,18 +58,34 @@ pub fn answer(alloc: Global, stanzas: &str, text: &[u8], limits: &Limits) -> Opt
 
 /// Whether a text over some stanzas is accepted.
 pub fn is_accepted(alloc: Global, stanzas: &str, text: &[u8]) -> bool {
-    matches!(
-        answer(alloc, stanzas, text, &Limits::stated()),
-        Some(Ok(Verdict::Accepted(_, _)))
-    )
+    match answer(alloc, stanzas, text, &Limits::stated()) {
+        Some(Ok(verdict)) => {
+            let accepted = matches!(verdict, Verdict::Accepted(_, _));
+            drop(verdict);
+            accepted
+        }
+        _ => false,
+    }
+}
+
+/// The fault that a verdict tells.
+fn fault_in(verdict: &Verdict) -> Option<CertFault> {
+    match verdict {
+        Verdict::Refused(fault) => Some(*fault),
+        _ => None,
+    }
 }
 
 /// The fault of a refused text over some stanzas.
 pub fn fault_of(alloc: Global, stanzas: &str, text: &[u8], limits: &Limits) -> Option<CertFault>
     requires { AreStated limits.now }
 {
-    match answer(alloc, stanzas, text, limits)? {
-        Ok(Verdict::Refused(fault)) => Some(fault),
+    match answer(alloc, stanzas, text, limits) {
+        Some(Ok(verdict)) => {
+            let fault = fault_in(&verdict);
+            drop(verdict);
+            fault
+        }
         _ => None,
     }
 }

@@ -1,15 +1,14 @@
 //! Certificates of which some lines are replaced.
 use std::alloc::Global;
 
-/// A certificate with the lines from one on up to another one replaced by a text.
-pub fn edited(
-    alloc: Global,
+/// Adds a certificate with the lines from one on up to another one replaced by a text.
+fn add_edited(
+    text: &mut Vec<u8>,
     certificate: &str,
     first: u64,
     last: u64,
     with: &str,
-) -> Option<Vec<u8>> {
-    let mut text = Vec::new(alloc);
+) -> Option<()> {
     if first == 1 {
         text.extend_from_slice(with.as_bytes()).ok()?;
     }
@@ -25,5 +24,23 @@ pub fn edited(
             }
         }
     }
-    Some(text)
+    Some(())
+}
+
+/// A certificate with the lines from one on up to another one replaced by a text.
+pub fn edited(
+    alloc: Global,
+    certificate: &str,
+    first: u64,
+    last: u64,
+    with: &str,
+) -> Option<Vec<u8>> {
+    let mut text = Vec::new(alloc);
+    match add_edited(&mut text, certificate, first, last, with) {
+        Some(()) => Some(text),
+        None => {
+            drop(text);
+            None
+        }
+    }
 }

@@ -1,5 +1,5 @@
 use Rattle.dist_future.specs.FutureHealth.{IsOneEach}
-use Rattle.dist_future_tests.proofs.assignments.assignment.Given as goal
+use Rattle.dist_future_tests.proofs.assignments.make_all_true.Given as goal
 
 -- one truth value per variable
 abbrev pub invariant-loop-variable : goal.invariant-loop-variable

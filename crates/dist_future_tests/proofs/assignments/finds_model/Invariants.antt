@@ -1,5 +1,5 @@
 use Rattle.dist_future.specs.FutureHealth.{IsOneEach}
-use Rattle.dist_future_tests.proofs.assignments.has_model.Given as goal
+use Rattle.dist_future_tests.proofs.assignments.finds_model.Given as goal
 
 -- one truth value per variable
 abbrev pub invariant-loop-round : goal.invariant-loop-round
