@@ -5,7 +5,7 @@ use dist_cert::CertCause::{
 };
 use dist_cert::CertFault;
 use dist_outside::Limits;
-use dist_samples::{PAIR, TEN, TWO, hold};
+use dist_samples::{PAIR, TEN, TWO};
 use dist_verdicts::{at, edited, fault_of, is_accepted};
 use std::alloc::Global;
 
@@ -106,7 +106,7 @@ pub(crate) fn wrong_edit(
 
 #[test]
 fn edits_are_refused(rt: HostRuntime) {
-    hold(&rt, wrong_edit(rt.alloc(), TWO, TEN, EDITS));
+    assert_eq!(rt; wrong_edit(rt.alloc(), TWO, TEN, EDITS), None);
 }
 
 /// Stanzas, a text, and the line and the cause of its refusal.
@@ -160,7 +160,7 @@ pub(crate) fn wrong_text(alloc: Global, rows: &[Text]) -> Option<&'static str> {
 
 #[test]
 fn texts_are_refused(rt: HostRuntime) {
-    hold(&rt, wrong_text(rt.alloc(), TEXTS));
+    assert_eq!(rt; wrong_text(rt.alloc(), TEXTS), None);
 }
 
 /// Whether a front of a certificate is truncated at the line that it ends in.

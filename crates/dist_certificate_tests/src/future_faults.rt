@@ -7,7 +7,7 @@ use dist_cert::CertCause::{
     self, BadHeader, BadLine, BadRecord, Incomplete, LimitNotReached, NotAFuture,
     NotAnInstallation, NotNew, OutOfOrder, OutOfRange, UnknownLine, WrongClaim,
 };
-use dist_samples::{LIBRARY, hold};
+use dist_samples::LIBRARY;
 use std::alloc::Global;
 
 /// Of the certificate of outdated packages.
@@ -224,7 +224,7 @@ fn wrong_edit_of(alloc: Global, all: &[Edited]) -> Option<&'static str> {
 
 #[test]
 fn edits_of_certificates_on_futures_are_refused(rt: HostRuntime) {
-    hold(&rt, wrong_edit_of(rt.alloc(), EDITED));
+    assert_eq!(rt; wrong_edit_of(rt.alloc(), EDITED), None);
 }
 
 #[test]
@@ -256,7 +256,7 @@ const TEXTS: &[Text] = &[
 
 #[test]
 fn texts_on_futures_are_refused(rt: HostRuntime) {
-    hold(&rt, wrong_text(rt.alloc(), TEXTS));
+    assert_eq!(rt; wrong_text(rt.alloc(), TEXTS), None);
 }
 
 /// A package without relations.

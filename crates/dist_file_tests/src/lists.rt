@@ -1,7 +1,7 @@
 //! Texts over the packages a=1, a=2 and b=1:0-3, in their order: sets of them, and single ones.
 use dist_list::{ListError, lists_are_exact, names_are_exact, package_named, read_list};
 use dist_repo::Repository;
-use dist_samples::{hold, repository};
+use dist_samples::repository;
 use std::alloc::Global;
 
 const STANZAS: &str =
@@ -80,7 +80,7 @@ fn wrong_set(alloc: Global, rows: &[Row]) -> Option<&'static str> {
 
 #[test]
 fn sets(rt: HostRuntime) {
-    hold(&rt, wrong_set(rt.alloc(), ROWS));
+    assert_eq!(rt; wrong_set(rt.alloc(), ROWS), None);
 }
 
 /// A text, and the number of the one package that it names.
@@ -146,7 +146,7 @@ fn wrong_package(alloc: Global, rows: &[OneRow]) -> Option<&'static str> {
 
 #[test]
 fn single_packages(rt: HostRuntime) {
-    hold(&rt, wrong_package(rt.alloc(), ONE_ROWS));
+    assert_eq!(rt; wrong_package(rt.alloc(), ONE_ROWS), None);
 }
 
 #[test]

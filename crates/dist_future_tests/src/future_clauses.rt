@@ -6,7 +6,7 @@ use dist_future::{
     Space, clauses_of, clauses_with_ends, one_limit_is_passed, space_clauses_are_one,
     space_clauses_are_there, space_clauses_go_on,
 };
-use dist_samples::{ClauseLimits, LIBRARY, has, hold};
+use dist_samples::{ClauseLimits, LIBRARY, has};
 use std::alloc::Global;
 
 /// The clauses of mode plain over an essential name, and then the one of mode essential.
@@ -217,7 +217,7 @@ fn an_essential_name_has_no_clause_at_mode_plain(rt: HostRuntime) {
 
 #[test]
 fn the_clauses_of_small_spaces(rt: HostRuntime) {
-    hold(&rt, wrong_clauses(rt.alloc(), CLAUSES));
+    assert_eq!(rt; wrong_clauses(rt.alloc(), CLAUSES), None);
 }
 
 /// What a row shows, stanzas, a mode, how many clauses stand in groups 1 to 3, 1 to 5 and 1 to 6, and how many there are.
@@ -266,7 +266,7 @@ fn wrong_ends(alloc: Global, rows: &[Ends]) -> Option<&'static str> {
 
 #[test]
 fn the_ends_of_groups(rt: HostRuntime) {
-    hold(&rt, wrong_ends(rt.alloc(), ENDS));
+    assert_eq!(rt; wrong_ends(rt.alloc(), ENDS), None);
 }
 
 const LIMITS: &[ClauseLimits] = &[

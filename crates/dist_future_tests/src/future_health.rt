@@ -8,7 +8,7 @@ use dist_future::{
     healthy_are_models, healthy_stand_for_futures, models_stand_for_futures,
     models_tell_of_packages, one_future_health,
 };
-use dist_samples::{LIBRARY, hold};
+use dist_samples::LIBRARY;
 use std::alloc::Global;
 
 /// What a row shows, stanzas, a mode, and the health of assignments, each given by its true variables.
@@ -98,7 +98,7 @@ fn wrong_health(alloc: Global, rows: &[Assignments]) -> Option<&'static str> {
 
 #[test]
 fn assignments_have_their_health(rt: HostRuntime) {
-    hold(&rt, wrong_health(rt.alloc(), ASSIGNMENTS));
+    assert_eq!(rt; wrong_health(rt.alloc(), ASSIGNMENTS), None);
 }
 
 /// What a row shows, stanzas, a mode, and meanings, each time with whether some healthy assignment makes them true.
@@ -259,7 +259,7 @@ fn wrong_models(alloc: Global, rows: &[Models]) -> Option<&'static str> {
 
 #[test]
 fn packages_have_models(rt: HostRuntime) {
-    hold(&rt, wrong_models(rt.alloc(), MODELS));
+    assert_eq!(rt; wrong_models(rt.alloc(), MODELS), None);
 }
 
 #[test]

@@ -3,7 +3,7 @@ ghost use Rattle.std.specs.Prelude.{◌≤◌};
 
 use crate::spaces::{ONE_SOURCE, space_within};
 use dist_future::{Meaning, Space, SpaceError, spaces_are_one, spaces_are_there};
-use dist_samples::{LIBRARY, hold};
+use dist_samples::LIBRARY;
 use std::alloc::Global;
 
 /// Whether these are the meanings of all variables, in order, and each has its variable.
@@ -127,7 +127,7 @@ fn wrong_variables(alloc: Global, rows: &[Variables]) -> Option<&'static str> {
 
 #[test]
 fn variables_have_their_meanings(rt: HostRuntime) {
-    hold(&rt, wrong_variables(rt.alloc(), VARIABLES));
+    assert_eq!(rt; wrong_variables(rt.alloc(), VARIABLES), None);
 }
 
 #[test]

@@ -8,7 +8,7 @@ use dist_cert::{
     reader_is_exact, written_is_read,
 };
 use dist_outside::{Desk, Limits, MemoryDesk};
-use dist_samples::{TEN, hold};
+use dist_samples::TEN;
 use std::alloc::Global;
 
 /// A record of constant lists.
@@ -342,7 +342,7 @@ fn wrong_copy(alloc: Global, rows: &[Text]) -> Option<&'static str> {
 
 #[test]
 fn texts_are_copied(rt: HostRuntime) {
-    hold(&rt, wrong_copy(rt.alloc(), TEXTS));
+    assert_eq!(rt; wrong_copy(rt.alloc(), TEXTS), None);
 }
 
 #[test]

@@ -12,7 +12,7 @@ use dist_classes::{
 use dist_cluster::Clusters;
 use dist_relation::Name;
 use dist_repo::Repository;
-use dist_samples::{hold, repository};
+use dist_samples::repository;
 use dist_version::Version;
 use std::alloc::Global;
 
@@ -255,7 +255,7 @@ fn wrong_of(alloc: Global, stanzas: &str, rows: &[Numbered]) -> Option<&'static 
 
 #[test]
 fn versions_are_of_one_class(rt: HostRuntime) {
-    hold(&rt, wrong_of(rt.alloc(), TWO_BOUNDS.0, NUMBERS));
+    assert_eq!(rt; wrong_of(rt.alloc(), TWO_BOUNDS.0, NUMBERS), None);
 }
 
 #[test]

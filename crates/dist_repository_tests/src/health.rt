@@ -2,7 +2,7 @@
 use dist_clause::Assignment;
 use dist_now::{Health, health, one_health};
 use dist_repo::Repository;
-use dist_samples::{hold, repository};
+use dist_samples::repository;
 use std::alloc::Global;
 
 const LONE: &str = "Package: a\nVersion: 1\n\nPackage: b\nVersion: 1\nEssential: yes\n";
@@ -52,12 +52,12 @@ fn wrong_health(alloc: Global, rows: &[Row]) -> Option<&'static str> {
 
 #[test]
 fn one_member(rt: HostRuntime) {
-    hold(&rt, wrong_health(rt.alloc(), ONE_MEMBER));
+    assert_eq!(rt; wrong_health(rt.alloc(), ONE_MEMBER), None);
 }
 
 #[test]
 fn essential_name(rt: HostRuntime) {
-    hold(&rt, wrong_health(rt.alloc(), ESSENTIAL_NAME));
+    assert_eq!(rt; wrong_health(rt.alloc(), ESSENTIAL_NAME), None);
 }
 
 #[test]

@@ -1,12 +1,11 @@
-//! What tests of several layers share: texts of a few lines, the repositories and clauses of such texts, words, files, limits that
-//! are lower than the stated ones, and how a run ends at a wrong row. For tests alone.
+//! What tests of several layers share: texts of a few lines, the repositories and clauses of such texts, words, files, and limits
+//! that are lower than the stated ones. For tests alone.
 #![tactic(auto)]
 
 mod claims;
 mod files;
 mod limits;
 mod numbers;
-mod rows;
 mod stanzas;
 mod texts;
 mod words;
@@ -15,7 +14,6 @@ pub use claims::Said;
 pub use files::is_held;
 pub use limits::limited;
 pub use numbers::{ClauseLimits, add, clause, has, push, push_all};
-pub use rows::hold;
 pub use stanzas::repository;
 pub use texts::{CHALLENGES, LIBRARY, PAIR, PYTHON, TEN, TWO};
 pub use words::words_of;

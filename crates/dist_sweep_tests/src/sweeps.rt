@@ -6,7 +6,7 @@ use dist_budget::{budgets_are_enough, explanation_budgets_are_enough, repair_bud
 use dist_cert::Claims;
 use dist_outside::{Limits, MemoryDesk, What, WorkError};
 use dist_repo::Repository;
-use dist_samples::{Said, TWO, hold, is_held, limited, repository};
+use dist_samples::{Said, TWO, is_held, limited, repository};
 use dist_strong::strong;
 use dist_verdicts::{are_said, is_accepted};
 use std::alloc::Global;
@@ -270,7 +270,7 @@ fn wrong_certificate(alloc: Global, rows: &[Written]) -> Option<&'static str> {
 
 #[test]
 fn certificates_have_these_lines(rt: HostRuntime) {
-    hold(&rt, wrong_certificate(rt.alloc(), WRITTEN));
+    assert_eq!(rt; wrong_certificate(rt.alloc(), WRITTEN), None);
 }
 
 /// The most that a call of the desk moves, the call that fails, and the file that a sweep over no packages leaves.

@@ -19,6 +19,4 @@ pub mod trial_rows;
 pub mod words_rows;
 
 pub use row::{After, EMPTY, Failing, NOTHING, Row, Table};
-pub use running::{
-    Ended, SINK_STEP, Wrong, carried_out, desk_of, first_wrong, hold, wrong_in, wrong_of,
-};
+pub use running::{Ended, SINK_STEP, Wrong, carried_out, desk_of, first_wrong, wrong_in, wrong_of};

@@ -7,7 +7,6 @@ use dist_app::{Status, run, run_with};
 use dist_outside::{MemoryDesk, MemorySink, What};
 use dist_samples::{is_held, limited, words_of};
 use std::alloc::{AllocError, Global};
-use std::process::Abort;
 
 /// The most that a call of the desk moves.
 const DESK_STEP: usize = 7;
@@ -188,13 +187,4 @@ pub fn first_wrong(alloc: Global, tables: &[Table]) -> Result<Option<Wrong>, All
         }
     }
     Ok(None)
-}
-
-/// Ends the run where a row of some tables is wrong, and tells it.
-pub fn hold(rt: &impl Abort, wrong: Result<Option<Wrong>, AllocError>) {
-    match wrong {
-        Ok(None) => {}
-        Ok(Some(wrong)) => assert!(rt; false, "{}, row {}: {}", wrong.table, wrong.row, wrong.what),
-        Err(_) => assert!(rt; false, "no memory"),
-    }
 }

@@ -1,8 +1,9 @@
 //! Worked rows of `check-explain`: what files of explanations answer, and why they are refused.
+use crate::hold;
 use dist_app::Status;
 use dist_outside::What;
 use dist_top_rows::check_explain_rows::{EXPLAINED, INCOMPLETE, REFUSED};
-use dist_top_rows::{Failing, NOTHING, Row, Table, first_wrong, hold};
+use dist_top_rows::{Failing, NOTHING, Row, Table, first_wrong};
 
 /// Package a needs b or c, each of which needs d.
 const FORK: &str =

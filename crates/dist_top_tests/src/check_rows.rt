@@ -1,10 +1,11 @@
 //! Worked rows of `check`: certificates that are accepted, refused, too large, or not read.
+use crate::hold;
 use dist_app::Status;
 use dist_outside::What;
 use dist_top_rows::check_rows::{
     BAD_LINE, MAYBE_CHALLENGED, MAYBE_OUTDATED, MISSING, REFUSED, TEN,
 };
-use dist_top_rows::{Failing, NOTHING, Row, Table, check_rows, first_wrong, hold};
+use dist_top_rows::{Failing, NOTHING, Row, Table, check_rows, first_wrong};
 
 // Package a, which depends on b or c, and b, which depends on c, and c and d. One derived line leaves a undecided.
 const UNDECIDED: Row = Row {

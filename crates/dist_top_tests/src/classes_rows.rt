@@ -3,11 +3,12 @@ use crate::classes_reports::{
     ALONE_REPORT, ANY_REPORT, CUT_REPORT, NEAR_REPORT, NEW_NAME_REPORT, NO_NAMES_REPORT,
     PYTHON_REPORT, TOGETHER_REPORT,
 };
+use crate::hold;
 use dist_app::Status;
 use dist_outside::What;
 use dist_samples::PYTHON;
 use dist_top_rows::classes_rows::{BAD_STANZA, CUT, NONE, STOPPED};
-use dist_top_rows::{Failing, NOTHING, Row, Table, first_wrong, hold};
+use dist_top_rows::{Failing, NOTHING, Row, Table, first_wrong};
 
 const CUTS: &[Row] = &[
     NONE,

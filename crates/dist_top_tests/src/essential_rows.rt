@@ -1,7 +1,8 @@
 //! Worked rows of essential packages, whose names every healthy installation has where the flag stands.
+use crate::hold;
 use dist_app::Status;
 use dist_top_rows::strong_rows::NONE;
-use dist_top_rows::{After, EMPTY, Row, Table, first_wrong, hold};
+use dist_top_rows::{After, EMPTY, Row, Table, first_wrong};
 
 const BASE: &str =
     "Package: a\nVersion: 1\n\nPackage: b\nVersion: 1\nConflicts: base\n\nPackage: base\nVersion: 1\nEssential: yes\n";

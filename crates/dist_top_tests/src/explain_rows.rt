@@ -1,9 +1,10 @@
 //! Worked rows of `explain`: what is told of a package, and which packages are named.
+use crate::hold;
 use dist_app::Status;
 use dist_outside::What;
 use dist_top_rows::explain_rows::{EXPLAINED, NO_SUCH_PACKAGE};
 use dist_top_rows::strong_rows::GROUPS;
-use dist_top_rows::{After, Failing, NOTHING, Row, Table, first_wrong, hold};
+use dist_top_rows::{After, Failing, NOTHING, Row, Table, first_wrong};
 
 /// What is told of a package that wants one of each of five sets, where only four packages may stand together.
 const ALL_RELATIONS: &str = "package p=1\nbroken

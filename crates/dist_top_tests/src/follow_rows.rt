@@ -1,9 +1,10 @@
 //! Worked rows of `follow`: journals and what they leave, each fault of one, and faults of the other files.
+use crate::hold;
 use dist_app::Status;
 use dist_outside::What;
 use dist_top_rows::check_rows::{BAD_LINE, MAYBE_CHALLENGED, MAYBE_OUTDATED, TEN};
 use dist_top_rows::follow_rows::{BAD_JOURNAL, FOLLOWED, NOT_ABOVE, STOPPED};
-use dist_top_rows::{Failing, NOTHING, Row, Table, first_wrong, hold};
+use dist_top_rows::{Failing, NOTHING, Row, Table, first_wrong};
 
 const JOURNALS: &[Row] = &[
     FOLLOWED,

@@ -1,8 +1,9 @@
 //! Worked rows of `outdated` and `challenged`, and of `check` on what they write.
+use crate::hold;
 use dist_app::Status;
 use dist_outside::What;
 use dist_samples::PYTHON;
-use dist_top_rows::{After, EMPTY, Row, Table, essential_rows, first_wrong, futures_rows, hold};
+use dist_top_rows::{After, EMPTY, Row, Table, essential_rows, first_wrong, futures_rows};
 
 /// Two packages of one source, and one that needs versions of both which no later archive has together.
 const OUTDATED: Row = Row {

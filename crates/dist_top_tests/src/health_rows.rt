@@ -1,10 +1,11 @@
 //! Worked rows of `health`.
+use crate::hold;
 use dist_app::Status;
 use dist_outside::What;
 use dist_top_rows::health_rows::{
     BAD_DEPENDS, BAD_LIST, BAD_PACKAGES, BAD_THIRD_LINE, NOT_HEALTHY, ONE, UNMET,
 };
-use dist_top_rows::{EMPTY, Failing, NOTHING, Row, Table, first_wrong, hold};
+use dist_top_rows::{EMPTY, Failing, NOTHING, Row, Table, first_wrong};
 
 const MAIL: &str = "Package: exim4
 Version: 1

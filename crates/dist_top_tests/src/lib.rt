@@ -2,6 +2,13 @@
 #![tactic(auto)]
 
 #[cfg(test)]
+use dist_top_rows::Wrong;
+#[cfg(test)]
+use std::alloc::AllocError;
+#[cfg(test)]
+use std::process::Abort;
+
+#[cfg(test)]
 mod check_explain_rows;
 #[cfg(test)]
 mod check_rows;
@@ -35,3 +42,13 @@ mod strong_rows;
 mod trial_rows;
 #[cfg(test)]
 mod words_rows;
+
+/// Ends the run where a row of some tables is wrong, and tells it.
+#[cfg(test)]
+fn hold(rt: &impl Abort, wrong: Result<Option<Wrong>, AllocError>) {
+    match wrong {
+        Ok(None) => {}
+        Ok(Some(wrong)) => assert!(rt; false, "{}, row {}: {}", wrong.table, wrong.row, wrong.what),
+        Err(_) => assert!(rt; false, "no memory"),
+    }
+}

@@ -1,9 +1,10 @@
 //! Worked rows of `repair` and of `check-repair`: how many clusters must move, and why files are refused.
+use crate::hold;
 use dist_app::Status;
 use dist_outside::What;
 use dist_top_rows::repair_rows::{CHECKED, INCOMPLETE, REFUSED, REPAIRED};
 use dist_top_rows::strong_rows::GROUPS;
-use dist_top_rows::{After, Row, Table, first_wrong, hold};
+use dist_top_rows::{After, Row, Table, first_wrong};
 
 /// A program that needs two packages at later versions.
 const TWO_LATER: &str =

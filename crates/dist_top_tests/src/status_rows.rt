@@ -1,6 +1,7 @@
 //! Each status with its number and its line, but for want of memory, which has a file of its own.
+use crate::hold;
 use dist_top_rows::{
-    Row, Wrong, check_rows, classes_rows, explain_rows, follow_rows, health_rows, hold, steps_rows,
+    Row, Wrong, check_rows, classes_rows, explain_rows, follow_rows, health_rows, steps_rows,
     strong_rows, words_rows, wrong_of,
 };
 use std::alloc::{AllocError, Global};

@@ -1,9 +1,10 @@
 //! Worked rows of `steps`: plans, packages that keep a later archive from being a future, and faults of each file.
+use crate::hold;
 use dist_app::Status;
 use dist_outside::What;
 use dist_samples::LIBRARY;
 use dist_top_rows::steps_rows::{MISFIT, MOVED, STOPPED};
-use dist_top_rows::{Failing, NOTHING, Row, Table, first_wrong, hold};
+use dist_top_rows::{Failing, NOTHING, Row, Table, first_wrong};
 
 /// Two packages of one source.
 const PAIR: &str = "Package: a\nVersion: 1\nSource: s\n\nPackage: b\nVersion: 1\nSource: s\n";

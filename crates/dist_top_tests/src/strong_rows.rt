@@ -1,9 +1,10 @@
 //! Worked rows of `strong`: reports, certificates, and what is left of one where the work stops.
+use crate::hold;
 use dist_app::Status;
 use dist_outside::What;
 use dist_samples::PYTHON;
 use dist_top_rows::strong_rows::{CUT_SHORT, NONE, NOT_MADE, STOPPED, UNDECIDED, UNWRITTEN};
-use dist_top_rows::{After, Failing, NOTHING, Row, Table, first_wrong, hold};
+use dist_top_rows::{After, Failing, NOTHING, Row, Table, first_wrong};
 
 const APART: &str = "Package: a\nVersion: 1\nDepends: b\n\nPackage: b\nVersion: 1\nConflicts: a\n";
 

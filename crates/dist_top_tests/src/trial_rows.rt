@@ -1,6 +1,7 @@
 //! Trials.
+use crate::hold;
 use dist_top_rows::trial_rows::{STOPPED, TRIAL};
-use dist_top_rows::{Row, Table, first_wrong, hold};
+use dist_top_rows::{Row, Table, first_wrong};
 
 // A larger one, which comes to the same each time.
 const LARGER: Row = Row {

@@ -1,6 +1,7 @@
 //! Words that are no command, and a command.
+use crate::hold;
 use dist_top_rows::words_rows::{COMMAND, NO_COMMAND};
-use dist_top_rows::{Row, Table, first_wrong, hold};
+use dist_top_rows::{Row, Table, first_wrong};
 
 const NO_COMMANDS: &[Row] = &[
     Row {
