@@ -23,7 +23,15 @@ pub fn take_line(
     ensures err { IfErr result (LineStops state.old step line) }
     ensures ready { tools.new ≡ tools.old }
 {
-    if let Some(cause) = state.judge(alloc, tools, &step)? {
+    let told = match state.judge(alloc, tools, &step) {
+        Ok(told) => told,
+        Err(error) => {
+            drop(step);
+            return Err(ReadCertError::from(error));
+        }
+    };
+    if let Some(cause) = told {
+        drop(step);
         return Err(ReadCertError::Bad(CertFault { line, cause }));
     }
     if let Err(error) = state.take(alloc, tools, step) {

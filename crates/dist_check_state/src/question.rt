@@ -6,7 +6,7 @@ use dist_cert::Literals;
 use std::marker::Model;
 
 /// A question that is open.
-#[derive(Debug, Drop)]
+#[derive(Drop)]
 pub struct Question {
     assumptions: Literals,
     /// The number of the last clause before its line.

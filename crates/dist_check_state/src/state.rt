@@ -291,23 +291,32 @@ impl State {
                 self.open(literals);
                 Ok(())
             }
-            CertRecord::Derived(literals, _) => self.derive(tools, literals.as_slice()),
-            CertRecord::Refuted(_) => Ok(self.close(true)?),
+            CertRecord::Derived(literals, hints) => {
+                drop(hints);
+                let derived = self.derive(tools, literals.as_slice());
+                drop(literals);
+                derived
+            }
+            CertRecord::Refuted(hints) => {
+                drop(hints);
+                Ok(self.close(true)?)
+            }
             CertRecord::Installation(variables) => Ok(self.add_installation(alloc, variables)?),
             CertRecord::Undecided => Ok(self.close(false)?),
             CertRecord::NotInstallable(_) => Ok(self.claim(Claim::Uninstallable)?),
             CertRecord::Unknown(_) => Ok(self.claim(Claim::Unknown)?),
-            CertRecord::Strong(_, _, on, undecided) => {
+            CertRecord::Strong(_, named, on, undecided) => {
+                drop(named);
                 Ok(self.claim(Claim::Strong(from_zero(on), from_zero(undecided)))?)
             }
             CertRecord::Outdated(_) => Ok(self.claim(Claim::Outdated)?),
             CertRecord::Alive(_, _) => Ok(self.claim(Claim::Alive)?),
-            CertRecord::Challenged(_, _, by, undecided) => Ok(self.claim(Claim::Challenged(
-                pairs_from_zero(by),
-                pairs_from_zero(undecided),
-            ))?),
+            CertRecord::Challenged(_, named, by, undecided) => {
+                drop(named);
+                Ok(self.claim(Claim::Challenged(pairs_from_zero(by), pairs_from_zero(undecided)))?)
+            }
             CertRecord::End => {
-                self.question = None;
+                drop(self.question.take());
                 Ok(())
             }
         }
@@ -342,11 +351,17 @@ impl State {
             return Ok(());
         };
         if refuted {
-            self.group
-                .add_refuted(kind, variable, question.assumptions())
+            let added = self
+                .group
+                .add_refuted(kind, variable, question.assumptions());
+            drop(question);
+            added
         } else {
-            self.group
-                .add_undecided(kind, variable, question.assumptions())
+            let added = self
+                .group
+                .add_undecided(kind, variable, question.assumptions());
+            drop(question);
+            added
         }
     }
 
@@ -369,7 +384,7 @@ impl State {
     {
         let _stated = self.log.variables();
         self.claims.push(claim)?;
-        self.question = None;
+        drop(self.question.take());
         self.group.clear();
         self.next += 1;
         Ok(())

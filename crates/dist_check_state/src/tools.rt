@@ -43,12 +43,19 @@ impl Tools {
     pub fn new(alloc: Global, variables: u32) -> Result<Tools, AllocError>
         ensures { IfOk result (λ tools. tools ≡ variables) }
     {
-        Ok(Tools {
-            scratch: Scratch::new(alloc, variables)?,
-            clause: Vec::new(alloc),
-            trues: VariableSet::new(alloc, variables)?,
-            alloc,
-        })
+        let scratch = Scratch::new(alloc, variables)?;
+        match VariableSet::new(alloc, variables) {
+            Ok(trues) => Ok(Tools {
+                scratch,
+                clause: Vec::new(alloc),
+                trues,
+                alloc,
+            }),
+            Err(error) => {
+                drop(scratch);
+                Err(error)
+            }
+        }
     }
 
     /// Whether the clause of some literals follows by hints.
