@@ -65,12 +65,12 @@ fn are(clusters: &Clusters, expected: &[(&'static [u32], &'static str)]) -> bool
 }
 
 /// Four packages, and the members and tops of their clusters.
-type Partition = ([Row; 4], &'static [(&'static [u32], &'static str)]);
+type Partition = (&'static [Row; 4], &'static [(&'static [u32], &'static str)]);
 
 const PARTITIONS: &[Partition] = &[
     // The name of the source alone does not make a cluster, nor does its version.
     (
-        [
+        &[
             ("s", "1", "1"),
             ("s", "2", "2"),
             ("t", "1", "1"),
@@ -80,7 +80,7 @@ const PARTITIONS: &[Partition] = &[
     ),
     // Equal versions of a source may differ in their texts, and the top is the text least in bytes.
     (
-        [
+        &[
             ("z", "1", "1"),
             ("a", "3", "3"),
             ("z", "0:1", "1-0"),
@@ -90,7 +90,7 @@ const PARTITIONS: &[Partition] = &[
     ),
     // A rebuild stays in its cluster, and its suffix counts for the top. It is taken off once.
     (
-        [
+        &[
             ("s", "1", "1+b1"),
             ("s", "1", "1+b1+b2"),
             ("s", "1", "1+b10"),
@@ -117,7 +117,7 @@ fn are_of(alloc: Global, keys: &Keys, expected: &[(&'static [u32], &'static str)
 /// Whether the clusters of a row's packages are as it says.
 fn is_parted(alloc: Global, row: &Partition) -> bool {
     let mut keys = Keys::new(alloc);
-    let same = add_all(alloc, &mut keys, &row.0) && are_of(alloc, &keys, row.1);
+    let same = add_all(alloc, &mut keys, row.0) && are_of(alloc, &keys, row.1);
     drop(keys);
     same
 }
