@@ -5,23 +5,25 @@ use dist_clause::{Assignment, ClauseSet, Lit, PushError};
 use dist_samples::{clause, push};
 use std::alloc::Global;
 
+/// Whether a literal has this variable and this sign.
+fn is_literal(literal: Lit, variable: u32, positive: bool) -> bool {
+    literal.variable() == variable && literal.positive() == positive
+}
+
 #[test]
 fn a_literal_has_a_variable_and_a_sign(rt: HostRuntime) {
     let literal = Lit::new(7, true);
-    assert_eq!(rt; literal.variable(), 7);
-    assert!(rt; literal.positive());
-    let other = literal.negated();
-    assert_eq!(rt; other.variable(), 7);
-    assert!(rt; !other.positive());
-    assert!(rt; other.negated() == literal);
-    assert_eq!(rt; Lit::new(16_000_000, false).variable(), 16_000_000);
+    assert!(rt; is_literal(literal, 7, true));
+    assert!(rt; is_literal(literal.negated(), 7, false));
+    assert!(rt; literal.negated().negated() == literal);
+    assert!(rt; is_literal(Lit::new(16_000_000, false), 16_000_000, false));
 }
 
 /// A clause that comes to a set, and the answer.
 type Pushed = (&'static [i32], Result<(), PushError>);
 
 /// A set of two clauses and four literals at most refuses at these limits.
-const PUSHED: [Pushed; 4] = [
+const PUSHED: &[Pushed] = &[
     (&[1, -2, 3], Ok(())),
     (&[-4, 5], Err(PushError::TooManyLiterals)),
     (&[2], Ok(())),
@@ -42,33 +44,44 @@ fn are_pushed(alloc: Global, set: &mut ClauseSet, rows: &[Pushed]) -> bool
 }
 
 /// Whether the clause of a number is the one of some numbers.
-fn has_clause(alloc: Global, set: &ClauseSet, number: u32, numbers: &[i32]) -> Option<bool> {
-    if number < 1 || number > set.len() {
-        return None;
+fn has_clause(alloc: Global, set: &ClauseSet, number: u32, numbers: &[i32]) -> bool {
+    match clause(alloc, 5, numbers) {
+        Some(clause) => {
+            let so = is_clause(set, number, &clause);
+            drop(clause);
+            so
+        }
+        None => false,
     }
-    let clause = clause(alloc, 5, numbers)?;
-    Some(set.clause(number) == clause.as_slice())
+}
+
+fn is_clause(set: &ClauseSet, number: u32, clause: &[Lit]) -> bool {
+    number >= 1 && number <= set.len() && set.clause(number) == clause
+}
+
+/// Whether a set has the two clauses that it took.
+fn has_both(alloc: Global, set: &ClauseSet) -> bool {
+    set.variables() == 5
+        && set.len() == 2
+        && has_clause(alloc, set, 1, &[1, -2, 3])
+        && has_clause(alloc, set, 2, &[2])
 }
 
 /// Whether a set answers as the rows say, and has the two clauses that it took.
-fn are_held(alloc: Global, rows: &[Pushed]) -> Option<bool> {
+fn are_held(alloc: Global, rows: &[Pushed]) -> bool {
     let mut set = ClauseSet::new(alloc, 5, 2, 4);
-    Some(
-        are_pushed(alloc, &mut set, rows)
-            && set.variables() == 5
-            && set.len() == 2
-            && has_clause(alloc, &set, 1, &[1, -2, 3])?
-            && has_clause(alloc, &set, 2, &[2])?,
-    )
+    let held = are_pushed(alloc, &mut set, rows) && has_both(alloc, &set);
+    drop(set);
+    held
 }
 
 #[test]
 fn a_set_refuses_at_its_two_limits(rt: HostRuntime) {
-    assert_eq!(rt; are_held(rt.alloc(), &PUSHED), Some(true));
+    assert!(rt; are_held(rt.alloc(), PUSHED));
 }
 
 /// The values of the first two variables, and whether they make every clause true.
-const VALUES: [(bool, bool, bool); 4] = [
+const VALUES: &[(bool, bool, bool)] = &[
     (false, false, true),
     (false, true, true),
     (true, false, false),
@@ -100,17 +113,32 @@ fn are_models(set: &ClauseSet, values: &mut Assignment, rows: &[(bool, bool, boo
     true
 }
 
-/// Whether the two clauses of a conflict with the first variable hold as the rows say.
-fn hold_as_told(alloc: Global, rows: &[(bool, bool, bool)]) -> Option<bool> {
-    let mut set = ClauseSet::new(alloc, 5, 2, 4);
-    if !are_pushed(alloc, &mut set, &[(&[-1, 2], Ok(())), (&[-1, -2], Ok(()))]) {
-        return None;
+/// Whether the first variable is false at first, and then the values of each row hold in a set as it says.
+fn are_told(alloc: Global, set: &ClauseSet, rows: &[(bool, bool, bool)]) -> bool
+    requires { set.now.variables ≡ 5 }
+{
+    match Assignment::new(alloc, 5) {
+        Ok(mut values) => {
+            let told = !values.value(1) && are_models(set, &mut values, rows);
+            drop(values);
+            told
+        }
+        Err(_) => false,
     }
-    let mut values = Assignment::new(alloc, 5).ok()?;
-    Some(!values.value(1) && are_models(&set, &mut values, rows))
+}
+
+/// A conflict with the first variable.
+const CONFLICT: &[Pushed] = &[(&[-1, 2], Ok(())), (&[-1, -2], Ok(()))];
+
+/// Whether the two clauses of a conflict hold as the rows say.
+fn hold_as_told(alloc: Global, rows: &[(bool, bool, bool)]) -> bool {
+    let mut set = ClauseSet::new(alloc, 5, 2, 4);
+    let told = are_pushed(alloc, &mut set, CONFLICT) && are_told(alloc, &set, rows);
+    drop(set);
+    told
 }
 
 #[test]
 fn a_model_makes_every_clause_true(rt: HostRuntime) {
-    assert_eq!(rt; hold_as_told(rt.alloc(), &VALUES), Some(true));
+    assert!(rt; hold_as_told(rt.alloc(), VALUES));
 }

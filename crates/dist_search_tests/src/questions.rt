@@ -7,7 +7,6 @@ use dist_derive::Scratch;
 use dist_samples::{add, clause, push, push_all};
 use dist_solver::{Answer, AskError, Solver};
 use std::alloc::Global;
-use std::process::Abort;
 
 /// Clauses over 21 variables, and groups of numbers of each of which at most one is true.
 #[derive(Clone, Copy)]
@@ -115,6 +114,7 @@ fn clauses_of(alloc: Global, puzzle: Puzzle) -> Option<ClauseSet>
     {
         Some(set)
     } else {
+        drop(set);
         None
     }
 }
@@ -125,7 +125,10 @@ fn solver_of(alloc: Global, puzzle: Puzzle, lines: u32, literals: u32) -> Option
     requires literals { literals ≤ 10000 }
     ensures { IfSome result (λ s. s.log.variables ≡ 21) }
 {
-    Solver::new(alloc, clauses_of(alloc, puzzle)?, lines, literals).ok()
+    match clauses_of(alloc, puzzle) {
+        Some(clauses) => Solver::new(alloc, clauses, lines, literals).ok(),
+        None => None,
+    }
 }
 
 /// What a question came to.
@@ -133,10 +136,10 @@ fn solver_of(alloc: Global, puzzle: Puzzle, lines: u32, literals: u32) -> Option
 enum Seen {
     Found,
     Refuted,
-    /// Hints that do not refute the assumptions.
-    NotRefuted,
     Undecided,
     Refused(AskError),
+    /// Hints that do not refute the assumptions, or no memory for the question.
+    Wrong,
 }
 
 /// The clause of the negated assumptions.
@@ -152,18 +155,32 @@ fn negated(alloc: Global, assumptions: &[Lit]) -> Option<Vec<Lit>>
     Some(negated)
 }
 
-/// Whether hints refute assumptions.
-fn refuted(alloc: Global, solver: &Solver, assumptions: &[Lit], hints: &[u32]) -> Option<Seen>
+/// Whether a clause follows by hints in the log of a solver.
+fn follows(alloc: Global, solver: &Solver, clause: &[Lit], hints: &[u32]) -> bool
+    requires { IsClauseOver solver.now.log.variables clause.now }
+{
+    let log = solver.log();
+    match Scratch::new(alloc, log.variables()) {
+        Ok(mut scratch) => {
+            let follows = log.follows(&mut scratch, clause, hints);
+            drop(scratch);
+            follows
+        }
+        Err(_) => false,
+    }
+}
+
+/// What hints come to by which assumptions are refuted.
+fn refuted(alloc: Global, solver: &Solver, assumptions: &[Lit], hints: &[u32]) -> Seen
     requires { solver.now.log.variables ≡ 21 }
 {
-    let negated = negated(alloc, assumptions)?;
-    let mut scratch = Scratch::new(alloc, 21).ok()?;
-    let follows = solver.log().follows(&mut scratch, &negated, hints);
-    drop(scratch);
-    if follows {
-        Some(Seen::Refuted)
-    } else {
-        Some(Seen::NotRefuted)
+    match negated(alloc, assumptions) {
+        Some(clause) => {
+            let so = follows(alloc, solver, &clause, hints);
+            drop(clause);
+            if so { Seen::Refuted } else { Seen::Wrong }
+        }
+        None => Seen::Wrong,
     }
 }
 
@@ -173,36 +190,48 @@ fn seen_of(
     solver: &Solver,
     assumptions: &[Lit],
     answer: &Result<Answer, AskError>,
-) -> Option<Seen>
+) -> Seen
     requires { solver.now.log.variables ≡ 21 }
 {
     match answer {
-        Ok(Answer::Found(_)) => Some(Seen::Found),
+        Ok(Answer::Found(_)) => Seen::Found,
         Ok(Answer::Refuted(hints)) => refuted(alloc, solver, assumptions, hints.as_slice()),
-        Ok(Answer::Undecided) => Some(Seen::Undecided),
-        Err(error) => Some(Seen::Refused(*error)),
+        Ok(Answer::Undecided) => Seen::Undecided,
+        Err(error) => Seen::Refused(*error),
     }
 }
 
 /// What a question under some assumptions comes to, with guesses or by the plain descent alone.
-fn put(
-    alloc: Global,
-    solver: &mut Solver,
-    assumptions: &[i32],
-    limit: u32,
-    plainly: bool,
-) -> Option<Seen>
+fn ask(alloc: Global, solver: &mut Solver, assumed: &[Lit], limit: u32, plainly: bool) -> Seen
+    requires variables { solver.old.log.variables ≡ 21 }
+    requires assumed { IsClauseOver 21 assumed.now }
+    requires limit { 1 ≤ limit }
+    ensures { solver.new.log.variables ≡ 21 }
+{
+    let answer = if plainly {
+        solver.ask_plainly(assumed, limit)
+    } else {
+        solver.ask(assumed, limit)
+    };
+    let seen = seen_of(alloc, solver, assumed, &answer);
+    drop(answer);
+    seen
+}
+
+/// The same of the assumptions of some numbers.
+fn put(alloc: Global, solver: &mut Solver, assumptions: &[i32], limit: u32, plainly: bool) -> Seen
     requires variables { solver.old.log.variables ≡ 21 }
     requires limit { 1 ≤ limit }
     ensures { solver.new.log.variables ≡ 21 }
 {
-    let assumed = clause(alloc, 21, assumptions)?;
-    let answer = if plainly {
-        solver.ask_plainly(&assumed, limit)
-    } else {
-        solver.ask(&assumed, limit)
-    };
-    seen_of(alloc, solver, &assumed, &answer)
+    match clause(alloc, 21, assumptions) {
+        Some(assumed) => {
+            let seen = ask(alloc, solver, &assumed, limit, plainly);
+            drop(assumed);
+            seen
+        }
+        None => Seen::Wrong,
+    }
 }
 
 /// Assumptions, a limit, and what the question comes to.
@@ -215,7 +244,7 @@ const FULL: Seen = Seen::Refused(AskError::TooManyLines);
 
 const LONG: Seen = Seen::Refused(AskError::TooManyLiterals);
 
-const ASKED: [Asked; 13] = [
+const ASKED: &[Asked] = &[
     (Puzzle::Conflict, (9, 99), (&[2], 1, Seen::Found), Some(0)),
     (Puzzle::Conflict, (9, 99), (&[1], 1, Seen::Refuted), Some(0)),
     (
@@ -259,15 +288,11 @@ const ASKED: [Asked; 13] = [
 ];
 
 /// Whether a question comes to what it says.
-fn comes_to(alloc: Global, solver: &mut Solver, turn: &Turn, plainly: bool) -> Option<bool>
+fn comes_to(alloc: Global, solver: &mut Solver, turn: &Turn, plainly: bool) -> bool
     requires { solver.old.log.variables ≡ 21 }
     ensures { solver.new.log.variables ≡ 21 }
 {
-    if turn.1 == 0 {
-        return None;
-    }
-    let seen = put(alloc, solver, turn.0, turn.1, plainly)?;
-    Some(seen == turn.2)
+    turn.1 >= 1 && put(alloc, solver, turn.0, turn.1, plainly) == turn.2
 }
 
 /// Whether the last question added as many lines as it tells, and as many as are wanted, where that is known.
@@ -278,29 +303,28 @@ fn has_grown(solver: &Solver, before: u32, added: Option<usize>) -> bool {
 }
 
 /// Whether a question comes to what its row says, and adds as many lines.
-fn is_right(alloc: Global, solver: &mut Solver, row: &Asked, plainly: bool) -> Option<bool>
+fn is_right(alloc: Global, solver: &mut Solver, row: &Asked, plainly: bool) -> bool
     requires { solver.old.log.variables ≡ 21 }
 {
     let before = solver.log().len();
-    let right = comes_to(alloc, solver, &row.2, plainly)?;
-    Some(right && has_grown(solver, before, row.3))
+    comes_to(alloc, solver, &row.2, plainly) && has_grown(solver, before, row.3)
 }
 
 /// Whether questions come to what they say, one after another.
-fn are_right(alloc: Global, solver: &mut Solver, turns: &[Turn]) -> Option<bool>
+fn are_right(alloc: Global, solver: &mut Solver, turns: &[Turn]) -> bool
     requires { solver.old.log.variables ≡ 21 }
 {
     for turn in turns {
-        if !comes_to(alloc, solver, turn, false)? {
-            return Some(false);
+        if !comes_to(alloc, solver, turn, false) {
+            return false;
         }
     }
-    Some(true)
+    true
 }
 
 /// Questions to one solver of the crowded package: the same again, with the same first assumption and another behind it, with
 /// another first one, and the same after the lines that refute it were added.
-const TURNS: [Turn; 12] = [
+const TURNS: &[Turn] = &[
     (&[21], 1, Seen::Undecided),
     (&[21], 1, Seen::Undecided),
     (&[21, -1], 1, Seen::Undecided),
@@ -316,7 +340,7 @@ const TURNS: [Turn; 12] = [
 ];
 
 /// Questions to a solver that may add two lines.
-const SHORT_TURNS: [Turn; 5] = [
+const SHORT_TURNS: &[Turn] = &[
     (&[21], 5, FULL),
     (&[21], 5, FULL),
     (&[1], 1, Seen::Found),
@@ -325,7 +349,7 @@ const SHORT_TURNS: [Turn; 5] = [
 ];
 
 /// Questions to a solver whose lines may have twelve literals together: the first line fits.
-const LONG_TURNS: [Turn; 6] = [
+const LONG_TURNS: &[Turn] = &[
     (&[21], 1, Seen::Undecided),
     (&[21], 50, LONG),
     (&[21], 50, LONG),
@@ -335,20 +359,35 @@ const LONG_TURNS: [Turn; 6] = [
 ];
 
 /// Whether one of the assignments of the first three variables is a model in which the literals are true.
-fn is_possible(alloc: Global, clauses: &ClauseSet, literals: &[Lit]) -> Option<bool>
+fn finds_model(values: &mut Assignment, clauses: &ClauseSet, literals: &[Lit]) -> bool
+    requires values { length values.old ≡ 21 }
     requires clauses { clauses.now.variables ≡ 21 }
     requires literals { IsClauseOver 21 literals.now }
 {
-    let mut values = Assignment::new(alloc, 21).ok()?;
     for bits in 0..8u32 {
         values.set(1, bits & 1 != 0);
         values.set(2, bits & 2 != 0);
         values.set(3, bits & 4 != 0);
-        if values.holds(clauses) && are_true(&values, literals) {
-            return Some(true);
+        if values.holds(clauses) && are_true(values, literals) {
+            return true;
         }
     }
-    Some(false)
+    false
+}
+
+/// The same, where there is memory for an assignment.
+fn is_possible(alloc: Global, clauses: &ClauseSet, literals: &[Lit]) -> Option<bool>
+    requires clauses { clauses.now.variables ≡ 21 }
+    requires literals { IsClauseOver 21 literals.now }
+{
+    match Assignment::new(alloc, 21) {
+        Ok(mut values) => {
+            let possible = finds_model(&mut values, clauses, literals);
+            drop(values);
+            Some(possible)
+        }
+        Err(_) => None,
+    }
 }
 
 /// Whether all literals are true.
@@ -361,54 +400,107 @@ fn are_true(values: &Assignment, literals: &[Lit]) -> bool
         .all(|l| values.value(l.variable()) == l.positive())
 }
 
+/// Whether the answer under assumptions is a model, where that is possible, or refutes them, where it is not.
+fn answers(
+    alloc: Global,
+    clauses: &ClauseSet,
+    solver: &mut Solver,
+    assumptions: &[Lit],
+    possible: bool,
+) -> bool
+    requires clauses { clauses.now.variables ≡ 21 }
+    requires solver { solver.old.log.variables ≡ 21 }
+    requires assumptions { IsClauseOver 21 assumptions.now }
+    ensures { solver.new.log.variables ≡ 21 }
+{
+    let answer = solver.ask(assumptions, 10000);
+    let so = match &answer {
+        Ok(Answer::Found(values)) => {
+            possible && values.holds(clauses) && are_true(values, assumptions)
+        }
+        _ => !possible && seen_of(alloc, solver, assumptions, &answer) == Seen::Refuted,
+    };
+    drop(answer);
+    so
+}
+
 /// Whether the answer under assumptions is what trying all assignments gives.
-fn agrees(alloc: Global, clauses: &ClauseSet, solver: &mut Solver, numbers: &[i32]) -> Option<bool>
+fn agrees_under(
+    alloc: Global,
+    clauses: &ClauseSet,
+    solver: &mut Solver,
+    assumptions: &[Lit],
+) -> bool
+    requires clauses { clauses.now.variables ≡ 21 }
+    requires solver { solver.old.log.variables ≡ 21 }
+    requires assumptions { IsClauseOver 21 assumptions.now }
+    ensures { solver.new.log.variables ≡ 21 }
+{
+    match is_possible(alloc, clauses, assumptions) {
+        Some(possible) => answers(alloc, clauses, solver, assumptions, possible),
+        None => false,
+    }
+}
+
+/// The same of the assumptions of some numbers.
+fn agrees(alloc: Global, clauses: &ClauseSet, solver: &mut Solver, numbers: &[i32]) -> bool
     requires clauses { clauses.now.variables ≡ 21 }
     requires solver { solver.old.log.variables ≡ 21 }
     ensures { solver.new.log.variables ≡ 21 }
 {
-    let assumptions = clause(alloc, 21, numbers)?;
-    let possible = is_possible(alloc, clauses, &assumptions)?;
-    let answer = solver.ask(&assumptions, 10000);
-    if let Ok(Answer::Found(values)) = &answer {
-        return Some(possible && values.holds(clauses) && are_true(values, &assumptions));
+    match clause(alloc, 21, numbers) {
+        Some(assumptions) => {
+            let so = agrees_under(alloc, clauses, solver, &assumptions);
+            drop(assumptions);
+            so
+        }
+        None => false,
     }
-    let seen = seen_of(alloc, solver, &assumptions, &answer)?;
-    Some(!possible && seen == Seen::Refuted)
+}
+
+/// The list of assumptions of a code: each of three variables is true, false or not there. The codes from 27 on give the same lists
+/// with the first variable last.
+fn listed(code: usize) -> [i32; 3] {
+    let signs = [0, 1, -1i32];
+    let first = signs[code % 3];
+    let second = signs[code / 3 % 3].wrapping_mul(2);
+    let third = signs[code / 9 % 3].wrapping_mul(3);
+    if code < 27 {
+        [first, second, third]
+    } else {
+        [third, second, first]
+    }
 }
 
 /// Whether a solver answers all 27 lists of assumptions on three variables as trying all assignments does. They come in two orders:
 /// in the first one each question has another first assumption than the one before, in the second one most have the same.
-fn agrees_always(alloc: Global, clauses: &ClauseSet, solver: &mut Solver) -> Option<bool>
+fn agrees_always(alloc: Global, clauses: &ClauseSet, solver: &mut Solver) -> bool
     requires clauses { clauses.now.variables ≡ 21 }
     requires solver { solver.old.log.variables ≡ 21 }
 {
-    let signs = [0, 1, -1i32];
     for code in 0..54usize {
-        let first = signs[code % 3];
-        let second = signs[code / 3 % 3].wrapping_mul(2);
-        let third = signs[code / 9 % 3].wrapping_mul(3);
-        let numbers = if code < 27 {
-            [first, second, third]
-        } else {
-            [third, second, first]
-        };
-        if !agrees(alloc, clauses, solver, &numbers)? {
-            return Some(false);
+        if !agrees(alloc, clauses, solver, &listed(code)) {
+            return false;
         }
     }
-    Some(true)
+    true
 }
 
 /// Whether a solver of a puzzle answers as trying all assignments does.
-fn is_agreed(alloc: Global, puzzle: Puzzle, solver: &mut Solver) -> Option<bool>
+fn is_agreed(alloc: Global, puzzle: Puzzle, solver: &mut Solver) -> bool
     requires { solver.old.log.variables ≡ 21 }
 {
-    let clauses = clauses_of(alloc, puzzle)?;
-    agrees_always(alloc, &clauses, solver)
+    match clauses_of(alloc, puzzle) {
+        Some(clauses) => {
+            let agreed = agrees_always(alloc, &clauses, solver);
+            drop(clauses);
+            agreed
+        }
+        None => false,
+    }
 }
 
-const SMALL: [Puzzle; 6] = [
+const SMALL: &[Puzzle] = &[
     Puzzle::Conflict,
     Puzzle::Four,
     Puzzle::Chain,
@@ -418,36 +510,47 @@ const SMALL: [Puzzle; 6] = [
 ];
 
 /// Whether the question added one line alone, with the number 5 and hints among the four clauses by which it follows.
-fn has_added(alloc: Global, solver: &Solver) -> Option<bool> {
+fn has_added(alloc: Global, solver: &Solver) -> bool {
     let derived = solver.derived();
-    let log = solver.log();
-    if derived.len() != 1 || log.len() != 5 || derived.line(0) != 5 {
-        return Some(false);
+    if derived.len() != 1 || solver.log().len() != 5 || derived.line(0) != 5 {
+        return false;
     }
-    let mut scratch = Scratch::new(alloc, log.variables()).ok()?;
     let hints = derived.hints(0);
-    let of_four = hints.iter().all(|number| *number <= 4);
-    let follows = log.follows(&mut scratch, log.clause(5), hints);
-    drop(scratch);
-    Some(of_four && follows)
+    hints.iter().all(|number| *number <= 4) && follows(alloc, solver, solver.log().clause(5), hints)
 }
 
 /// Whether a question with the limit of one line adds that line, of a solver of the four clauses.
-fn adds_the_line(alloc: Global, solver: &mut Solver) -> Option<bool>
+fn adds_the_line(alloc: Global, solver: &mut Solver) -> bool
     requires { solver.old.log.variables ≡ 21 }
 {
-    let seen = put(alloc, solver, &[], 1, false)?;
-    Some(seen == Seen::Undecided && has_added(alloc, solver)?)
+    put(alloc, solver, &[], 1, false) == Seen::Undecided && has_added(alloc, solver)
 }
 
-/// Whether a question about the second variable finds it true, and the first one false, where these two exclude each other.
-fn finds_the_second(alloc: Global, solver: &mut Solver) -> Option<bool>
+/// Whether a question finds the second variable true, and the first one false.
+fn finds_second(solver: &mut Solver, assumed: &[Lit]) -> bool
+    requires solver { solver.old.log.variables ≡ 21 }
+    requires assumed { IsClauseOver 21 assumed.now }
+{
+    let answer = solver.ask(assumed, 1);
+    let so = match &answer {
+        Ok(Answer::Found(values)) => !values.value(1) && values.value(2),
+        _ => false,
+    };
+    drop(answer);
+    so
+}
+
+/// The same of a question about the second variable, where these two exclude each other.
+fn finds_the_second(alloc: Global, solver: &mut Solver) -> bool
     requires { solver.old.log.variables ≡ 21 }
 {
-    let assumed = clause(alloc, 21, &[2])?;
-    match solver.ask(&assumed, 1) {
-        Ok(Answer::Found(values)) => Some(!values.value(1) && values.value(2)),
-        _ => None,
+    match clause(alloc, 21, &[2]) {
+        Some(assumed) => {
+            let so = finds_second(solver, &assumed);
+            drop(assumed);
+            so
+        }
+        None => false,
     }
 }
 
@@ -467,7 +570,7 @@ enum Trial<'a> {
 }
 
 /// Whether a trial comes to what it says.
-fn succeeds(alloc: Global, solver: &mut Solver, trial: &Trial<'_>) -> Option<bool>
+fn succeeds(alloc: Global, solver: &mut Solver, trial: &Trial<'_>) -> bool
     requires { solver.old.log.variables ≡ 21 }
 {
     match trial {
@@ -480,74 +583,83 @@ fn succeeds(alloc: Global, solver: &mut Solver, trial: &Trial<'_>) -> Option<boo
 }
 
 /// The same with a new solver of a puzzle, which may have so many lines and literals.
-fn holds(alloc: Global, puzzle: Puzzle, limits: (u32, u32), trial: &Trial<'_>) -> Option<bool> {
+fn holds(alloc: Global, puzzle: Puzzle, limits: (u32, u32), trial: &Trial<'_>) -> bool {
     let (lines, literals) = limits;
     if lines > 1000 || literals > 10000 {
-        return None;
+        return false;
     }
-    let mut solver = solver_of(alloc, puzzle, lines, literals)?;
-    let answer = succeeds(alloc, &mut solver, trial);
-    drop(solver);
-    answer
+    match solver_of(alloc, puzzle, lines, literals) {
+        Some(mut solver) => {
+            let so = succeeds(alloc, &mut solver, trial);
+            drop(solver);
+            so
+        }
+        None => false,
+    }
 }
 
 const MANY: (u32, u32) = (1000, 10000);
 
-fn hold_asked(rt: &(impl Abort + AllocGlobal), rows: &[Asked], plainly: bool) {
-    for (number, row) in rows.iter().enumerate() {
-        assert_eq!(rt;
-            holds(rt.alloc(), row.0, row.1, &Trial::One(row, plainly)),
-            Some(true),
-            "row {number}"
-        );
+/// The place of the first question that comes to something else, with guesses or by the plain descent alone.
+fn wrong_question(alloc: Global, rows: &[Asked], plainly: bool) -> Option<usize> {
+    for place in 0..rows.len() {
+        let row = &rows[place];
+        if !holds(alloc, row.0, row.1, &Trial::One(row, plainly)) {
+            return Some(place);
+        }
     }
+    None
 }
 
 #[test]
 fn questions_have_their_answers(rt: HostRuntime) {
-    hold_asked(&rt, &ASKED, false);
+    assert_eq!(rt; wrong_question(rt.alloc(), ASKED, false), None);
 }
 
 #[test]
 fn a_plain_descent_has_the_same_answers(rt: HostRuntime) {
-    hold_asked(&rt, &ASKED, true);
+    assert_eq!(rt; wrong_question(rt.alloc(), ASKED, true), None);
 }
 
-fn hold_small(rt: &(impl Abort + AllocGlobal), puzzles: &[Puzzle]) {
-    for (number, puzzle) in puzzles.iter().enumerate() {
-        assert_eq!(rt;
-            holds(rt.alloc(), *puzzle, MANY, &Trial::All(*puzzle)),
-            Some(true),
-            "puzzle {number}"
-        );
+/// The place of the first puzzle that is answered otherwise than by trying all assignments.
+fn wrong_puzzle(alloc: Global, puzzles: &[Puzzle]) -> Option<usize> {
+    for place in 0..puzzles.len() {
+        let puzzle = puzzles[place];
+        if !holds(alloc, puzzle, MANY, &Trial::All(puzzle)) {
+            return Some(place);
+        }
     }
+    None
 }
 
 #[test]
 fn small_sets_are_answered_as_by_trying_all(rt: HostRuntime) {
-    hold_small(&rt, &SMALL);
+    assert_eq!(rt; wrong_puzzle(rt.alloc(), SMALL), None);
 }
 
-/// Trials with a solver of a puzzle.
-const TRIALS: [(Puzzle, (u32, u32), Trial<'static>); 5] = [
-    (Puzzle::Crowded, MANY, Trial::Turns(&TURNS)),
-    (Puzzle::Crowded, (2, 10000), Trial::Turns(&SHORT_TURNS)),
-    (Puzzle::Crowded, (1000, 12), Trial::Turns(&LONG_TURNS)),
+/// A puzzle, the most lines and literals of a solver, and what is tried with it.
+type Tried = (Puzzle, (u32, u32), Trial<'static>);
+
+const TRIALS: &[Tried] = &[
+    (Puzzle::Crowded, MANY, Trial::Turns(TURNS)),
+    (Puzzle::Crowded, (2, 10000), Trial::Turns(SHORT_TURNS)),
+    (Puzzle::Crowded, (1000, 12), Trial::Turns(LONG_TURNS)),
     (Puzzle::Four, (10, 10), Trial::Line),
     (Puzzle::Conflict, (9, 99), Trial::Model),
 ];
 
-fn hold_trials(rt: &(impl Abort + AllocGlobal), trials: &[(Puzzle, (u32, u32), Trial<'static>)]) {
-    for (number, row) in trials.iter().enumerate() {
-        assert_eq!(rt;
-            holds(rt.alloc(), row.0, row.1, &row.2),
-            Some(true),
-            "trial {number}"
-        );
+/// The place of the first trial that fails.
+fn wrong_trial(alloc: Global, trials: &[Tried]) -> Option<usize> {
+    for place in 0..trials.len() {
+        let row = &trials[place];
+        if !holds(alloc, row.0, row.1, &row.2) {
+            return Some(place);
+        }
     }
+    None
 }
 
 #[test]
 fn trials_succeed(rt: HostRuntime) {
-    hold_trials(&rt, &TRIALS);
+    assert_eq!(rt; wrong_trial(rt.alloc(), TRIALS), None);
 }
