@@ -2,8 +2,6 @@
 use Rattle.std.proofs.Common.{◌≡◌, ◌≤◌, ◌<◌, ℕ, List, Bool, false, inl, inr, Option, Some, None, length, refl, ap, sym, ◌∙◌, subst, arith}
 use Rattle.dist_outside.specs.Files.{Files}
 use Rattle.dist_outside.specs.declared.limits.Limits.{Limits}
-use Rattle.dist_list.specs.OneAnswer.{HasOneAnswer as ListHasOneAnswer}
-use Rattle.dist_package.specs.OneAnswer.{HasOneAnswer}
 use Rattle.dist_package.specs.declared.error.PackagesError.{PackagesError}
 use Rattle.dist_package.specs.declared.error.PackagesError.TheVariants as packages_error
 use Rattle.dist_repo.specs.PackageList.{PackageList}
@@ -19,12 +17,9 @@ use Rattle.dist_space.specs.Space.{IsSpace, SpaceView}
 use Rattle.dist_space.specs.SpaceOf.{IsSpaceOf}
 use Rattle.dist_subject.specs.Limited.{PassesFirst}
 use Rattle.dist_clause.specs.Formula.{Literal}
-use Rattle.dist_space_clauses.specs.SpaceClauses.{AreSpaceClauses}
 use Rattle.dist_repair.specs.Counters.{PassesCounted}
 use Rattle.dist_repair.specs.RepairFiles.{PassesWith}
 use Rattle.dist_explain.specs.ExplanationFiles.{PassesFirst as ExplainPasses}
-use Rattle.dist_list.specs.NamedPackage.{IsNamed}
-use Rattle.dist_journal.specs.OneEnd.{HasOneEnd}
 use Rattle.dist_journal.specs.declared.fault.FollowError.{FollowError}
 use Rattle.dist_journal.specs.declared.fault.FollowError.TheVariants as follow_error
 use Rattle.dist_commands.specs.Check.{CertificateAnswers, CertificateStage, Reports}
@@ -36,10 +31,11 @@ use Rattle.dist_commands.specs.Explain.{ExplainStages, Explains}
 use Rattle.dist_commands.specs.Follow.{IsEndOfJournal, JournalStage, TellsFollowed}
 use Rattle.dist_commands.specs.Health.{ListStage, Judges}
 use Rattle.dist_commands.specs.NamedStage.{NamedStage}
-use Rattle.dist_commands.specs.OneSpaceLaws.{HaveOneNewest, HaveOneSpace, HaveSpaceOnce}
+use Rattle.dist_commands.specs.OneSpaceLaws.{HaveOneSpace, HaveSpaceOnce}
 use Rattle.dist_commands.specs.PackagesStage.{PackagesStage}
 use Rattle.dist_commands.specs.Repair.{NewestStage, PlainSpaceStage, RepairStages, Repairs}
 use Rattle.dist_commands.specs.RepositoryStage.{IsEndOf, RepositoryStage}
+use Rattle.dist_app.specs.LawsPrivate.{HaveOneAnswer, HaveOneExplanation, HaveOneRepair, HaveOneNumber, HaveOneName, HaveOneClauses, HaveOneEnd, AreExact}
 use Rattle.dist_app.specs.Run.{Decides, Refuses, IsRunGivenUp}
 use Rattle.dist_commands.specs.Stages.{Ending, Goes, Ends, IsDetermined, Excludes, refused}
 use Rattle.dist_commands.specs.SpaceStage.{IsSpaceOfFile, SpaceStage}
@@ -51,7 +47,7 @@ use Rattle.dist_commands.specs.WrittenFile.{NumbersStage}
 use Rattle.dist_generate.specs.Generator.{generated}
 use Rattle.dist_commands.specs.declared.refusal.Refusal.TheVariants as refusal
 use Rattle.dist_app.proofs.Judgements.{check_determined}
-use Rattle.dist_app.proofs.OneVerdict.{HaveOneAnswer, HaveOneExplanation, HaveOneRepair, certificates_once, explanations_once}
+use Rattle.dist_app.proofs.OneVerdict.{certificates_once, explanations_once}
 use Rattle.dist_app.proofs.OneVerdict.{repairs_once}
 use Rattle.dist_app.proofs.StageLaws.{apart, nothing_excludes, same_end as same_ending, same_value, then_excludes}
 
@@ -73,45 +69,6 @@ same_end : (files : Option Files) (error : PackagesError) (e other : Ending) →
 same_end files (packages_error.Bad fault) e other is is' = is' ∙ sym is
 same_end files packages_error.TooMany e other is is' = is' ∙ sym is
 same_end files packages_error.NoMemory e other is is' = absurd is
-
--- one number is passed first
-abbrev pub HaveOneNumber : Type 0
-HaveOneNumber = (r : PackageList) (kind : CertKind) (essential : Bool) (limits : Limits) (what other : What) → IsInOrder r.packages
-    → PassesFirst r kind essential limits what → PassesFirst r kind essential limits other → other ≡ what
-
-abbrev pub HaveOneExplainNumber : Type 0
-HaveOneExplainNumber = (r : PackageList) (limits : Limits) (what other : What) → IsInOrder r.packages → ExplainPasses r limits what
-    → ExplainPasses r limits other → other ≡ what
-
--- a text names one package
-abbrev pub HaveOneName : Type 0
-HaveOneName = (packages : List Package) (text : List ℕ) (number other : ℕ) → IsInOrder packages → IsNamed packages text number
-    → IsNamed packages text other → other ≡ number
-
--- a space has one list of clauses
-abbrev pub HaveOneClauses : Type 0
-HaveOneClauses = (s : SpaceView) (clauses other : List (List Literal)) → AreSpaceClauses s clauses → AreSpaceClauses s other → other ≡ clauses
-
--- a journal has one end
-abbrev pub HaveOneEnd : Type 0
-HaveOneEnd = (s : SpaceView) (limit : ℕ) (journal : List ℕ) (old : List Package) → IsSpace s → HasOneEnd s limit journal old
-
--- each Packages text has one repository or one error, each LIST one set or one first bad line, each CERT one answer, as a certificate and as a file
--- of an explanation, and of what a sweep is judged by one number is passed first; each file has one space at a mode, and each journal one end
-pub record AreExact : Type 0 where
-  pub packages : (text : List ℕ) (limit : ℕ) → HasOneAnswer text limit
-  pub lists : (packages : List Package) (text : List ℕ) → ListHasOneAnswer packages text
-  pub certificates : HaveOneAnswer
-  pub explanations : HaveOneExplanation
-  pub numbers : HaveOneNumber
-  pub explain_numbers : HaveOneExplainNumber
-  pub names : HaveOneName
-  pub spaces : HaveOneSpace
-  pub newest : HaveOneNewest
-  pub space_of : HaveSpaceOnce
-  pub clauses : HaveOneClauses
-  pub repairs : HaveOneRepair
-  pub journals : HaveOneEnd
 
 repository_determined : AreExact → (files : Option Files) (stanzas : ℕ) (text : List ℕ) → IsDetermined (RepositoryStage files stanzas text)
 repository_determined exact files stanzas text (Goes a) (Goes b) f g = ap Goes ((exact.packages text stanzas).one_repository a b f g)

@@ -1,5 +1,5 @@
 -- What an undisturbed run comes to, from the end that it promises.
-use Rattle.std.proofs.Common.{◌≡◌, ◌⊎◌, ℕ, ◌<◌, Bool, false, List, length, inl, inr, Option, Some, Result, ap, sym, ◌∙◌, subst}
+use Rattle.std.proofs.Common.{◌≡◌, ◌⊎◌, ℕ, Bool, false, List, inl, inr, Option, Some, Result, ap, sym, ◌∙◌, subst}
 use Rattle.std.specs.List.{list_any}
 use Rattle.dist_base.specs.ListLaws.{within-from}
 use Rattle.dist_base.specs.declared.TheConstants.{DEFAULT_LIMIT}
@@ -16,14 +16,8 @@ use Rattle.dist_history.specs.PlanText.{misfit_text, plan_text}
 use Rattle.dist_now.specs.Health.{IsHealth}
 use Rattle.dist_now.specs.declared.kinds.Health.{Health as Judgement}
 use Rattle.dist_now.specs.declared.kinds.Health.TheVariants as health
-use Rattle.dist_budget.specs.Budget.{IsBelowBudget, IsBelowFileBudget}
-use Rattle.dist_budget.specs.SearchBudget.{explanation_size, repair_size}
-use Rattle.dist_clause.specs.Formula.{Literal}
-use Rattle.dist_now.specs.PresentClauses.{ArePresentClauses}
-use Rattle.dist_inquiry.specs.Written.{IsFull as IsFullText}
-use Rattle.dist_explain_search.specs.ExplainAnswers.{OfExplain}
-use Rattle.dist_repair_search.specs.SearchAnswers.{OfRepair, header_with}
-use Rattle.dist_repair.specs.declared.verdict.RepairHeader.{RepairHeader}
+use Rattle.dist_budget.specs.Budget.{IsBelowBudget}
+use Rattle.dist_repair_search.specs.SearchAnswers.{header_with}
 use Rattle.dist_cert.specs.Part.{IsStoppedBy}
 use Rattle.dist_cert.specs.declared.faults.ReadCertError.{ReadCertError}
 use Rattle.dist_cert.specs.declared.records.CertKind.{CertKind}
@@ -36,8 +30,8 @@ use Rattle.dist_repair.specs.Verdicts.{is_undecided}
 use Rattle.dist_journal.specs.declared.fault.FollowError.{FollowError}
 use Rattle.dist_journal.specs.declared.fault.FollowError.TheVariants as follow_error
 use Rattle.dist_history.specs.FollowText.{follow_text}
-use Rattle.dist_subject.specs.Basis.{Basis, IsBasisOf, matter_of}
-use Rattle.dist_sweep.specs.Sweep.{IsFull, OfSweep, header_of}
+use Rattle.dist_subject.specs.Basis.{matter_of}
+use Rattle.dist_sweep.specs.Sweep.{IsFull, OfSweep}
 use Rattle.dist_trial.specs.Summary.{has_marks}
 use Rattle.dist_trial.specs.Trial.{IsStoppedAt}
 use Rattle.dist_words.specs.CommandLine.{CommandLine, Health, Classes, Sweep, Check, CheckExplain, Explain, CheckRepair}
@@ -50,6 +44,7 @@ use Rattle.dist_commands.specs.CheckedFile.{IsOneAnswer}
 use Rattle.dist_commands.specs.Claims.{has_mark, marked_status}
 use Rattle.dist_commands.specs.Classes.{TellsClasses}
 use Rattle.dist_commands.specs.Command.{CommandDecides, CommandIsGivenUp, IsApart}
+use Rattle.dist_app.specs.LawsPrivate.{HaveOneEnd, HaveOneHealth, BudgetsSuffice, Laws}
 use Rattle.dist_app.specs.Complete.{Completes, ExplainComesTo, ExplainStopsBelow, IsComplete, IsStatusOfFile, IsStatusOfJournal}
 use Rattle.dist_app.specs.Complete.{IsStatusOfLater, IsStatusOfRefused, IsStatusOfSet}
 use Rattle.dist_app.specs.Complete.{IsUndisturbed, StopsBelowBudget, TrialIsComplete, stop_status, told_claims, told_explained}
@@ -76,43 +71,14 @@ use Rattle.dist_commands.specs.declared.refusal.Refusal.TheVariants as refusal
 use Rattle.dist_commands.specs.declared.status.Status.{Status}
 use Rattle.dist_commands.specs.declared.status.Status.TheVariants.{Done, WriteFault, NoMemory, TooLarge, NotAFuture}
 use Rattle.dist_commands.specs.declared.status.Status.TheVariants.{NoSuchPackage}
-use Rattle.dist_app.proofs.CommandLaws.{AreExact, one_line, archive_determined, inputs_determined, in_order, list_determined}
-use Rattle.dist_app.proofs.CommandLaws.{HaveOneEnd, certificate_determined, named_determined, numbers_determined, packages_determined}
+use Rattle.dist_app.proofs.CommandLaws.{one_line, archive_determined, inputs_determined, in_order, list_determined}
+use Rattle.dist_app.proofs.CommandLaws.{certificate_determined, named_determined, numbers_determined, packages_determined}
 use Rattle.dist_app.proofs.CommandLaws.{counted_determined, newest_determined, newest_order, plain_determined, space_determined, text_determined}
 use Rattle.dist_app.proofs.Headlines.{of_line}
 use Rattle.dist_app.proofs.Judgements.{comes_to, judged_first}
 use Rattle.dist_app.proofs.OneVerdict.{certificates_once, explanations_once, repairs_once}
 use Rattle.dist_app.proofs.Refused.{mark_carried_out}
 use Rattle.dist_app.proofs.StageLaws.{then_goes}
-
--- a set has one health
-abbrev pub HaveOneHealth : Type 0
-HaveOneHealth = (r : PackageList) (essential : Bool) (flags : List Bool) (health other : Judgement) → IsHealth r essential flags health
-    → IsHealth r essential flags other → other ≡ health
-
--- a sweep is stopped by a number only where that is below its budget
-abbrev pub BudgetsSuffice : Type 0
-BudgetsSuffice = (r : PackageList) (kind : CertKind) (essential : Bool) (limit : ℕ) (limits : Limits) (basis : Basis) (text : List ℕ) (what : What)
-    → IsBasisOf r kind essential basis → IsStoppedBy (matter_of r basis) limits (header_of kind essential limit (matter_of r basis)) text what
-    → IsBelowBudget limits kind (matter_of r basis) limit what
-
--- and so is the search for an explanation, and that for a repair
-abbrev pub ExplanationBudgetsSuffice : Type 0
-ExplanationBudgetsSuffice = (r : PackageList) (relations : List (List Literal)) (number limit : ℕ) (limits : Limits) (what : What) (text : List ℕ)
-    → number < length r.packages → ArePresentClauses r false relations → OfExplain r number limit limits (λ g course. IsFullText g course what text)
-    → IsBelowFileBudget limits (explanation_size r relations limit) what
-
-abbrev pub RepairBudgetsSuffice : Type 0
-RepairBudgetsSuffice = (s : SpaceView) (h : RepairHeader) (limits : Limits) (what : What) (text : List ℕ)
-    → OfRepair s h limits (λ g course. IsFullText g course what text) → IsBelowFileBudget limits (repair_size s h) what
-
--- what the ends of commands are told by
-pub record Laws : Type 0 where
-  pub texts : AreExact
-  pub health : HaveOneHealth
-  pub budgets : BudgetsSuffice
-  pub explain_budgets : ExplanationBudgetsSuffice
-  pub repair_budgets : RepairBudgetsSuffice
 
 -- the status of an end
 status_from : (e f : Ending) → e ≡ f → e.status ≡ f.status

@@ -1,16 +1,13 @@
 -- What a run that sweeps, and one of each other command with a claim prove, from the end that they come to.
-use Rattle.std.proofs.Common.{◌≡◌, ℕ, Bool, false, List, inl, inr, Option, Some, None, ap, ◌∙◌, subst, sym}
+use Rattle.std.proofs.Common.{◌≡◌, ◌≢◌, ℕ, Bool, false, List, inl, inr, Option, Some, None, ap, ◌∙◌, subst, sym}
 use Rattle.dist_outside.specs.DeskView.{DeskView}
 use Rattle.dist_outside.specs.Files.{Files}
 use Rattle.dist_outside.specs.SinkView.{SinkView, Grew}
 use Rattle.dist_outside.specs.declared.limits.Limits.{Limits}
 use Rattle.dist_repo.specs.PackageList.{PackageList}
-use Rattle.dist_space.specs.Space.{IsSpace, SpaceView}
+use Rattle.dist_space.specs.Space.{SpaceView}
 use Rattle.dist_space.specs.SpaceOf.{IsSpaceOf}
-use Rattle.dist_findings.specs.Answers.{IsAnswered as IsAnsweredFile}
-use Rattle.dist_repair.specs.Answered.{Answers}
-use Rattle.dist_repair.specs.RepairFiles.{PassesWith, asked_by, repair_files}
-use Rattle.dist_repair.specs.Verdicts.{AcceptedSays, IsHeaderOf}
+use Rattle.dist_repair.specs.RepairFiles.{PassesWith}
 use Rattle.dist_repair.specs.declared.repair.Repair.{Repair}
 use Rattle.dist_repair.specs.declared.verdict.RepairHeader.{RepairHeader}
 use Rattle.dist_repair_search.specs.SearchAnswers.{header_with}
@@ -18,16 +15,14 @@ use Rattle.dist_cert.specs.declared.records.CertKind.{CertKind}
 use Rattle.dist_cert.specs.declared.records.Claim.{Claim}
 use Rattle.dist_cert.specs.declared.records.Header.{Header}
 use Rattle.dist_list.specs.NamedPackage.{IsNamed}
-use Rattle.dist_repo.specs.Order.{IsInOrder}
 use Rattle.dist_explain.specs.ExplanationFiles.{PassesFirst as ExplainPasses}
-use Rattle.dist_explain.specs.Verdicts.{AcceptedMeans as ExplanationMeans, IsExplanation}
 use Rattle.dist_explain.specs.declared.explained.Explained.{Explained}
 use Rattle.dist_explain.specs.declared.verdict.ExplainHeader.{ExplainHeader}
 use Rattle.dist_subject.specs.Limited.{PassesFirst}
 use Rattle.dist_words.specs.CommandLine.{CommandLine, Sweep, Check, CheckExplain, Explain, CheckRepair}
 use Rattle.dist_words.specs.CommandLine.{Repair as RepairLine, Steps, Follow}
 use Rattle.dist_words.specs.Table.{command_of}
-use Rattle.dist_app.specs.CarriedPrivate.{IsAnswered}
+use Rattle.dist_app.specs.LawsPrivate.{ClaimsHold, ExplanationsHold, RepairsHold}
 use Rattle.dist_commands.specs.Check.{CertificateAnswers, CertificateStage, CheckStages, Reports}
 use Rattle.dist_commands.specs.CheckExplain.{CheckExplainStages, ExplanationReads, ExplanationStage, TellsExplained}
 use Rattle.dist_commands.specs.CheckRepair.{CheckRepairStages, RepairReads, RepairStage, TellsRepair}
@@ -38,22 +33,21 @@ use Rattle.dist_app.specs.Headline.{CheckExplainIsProved, CheckIsProved, Explain
 use Rattle.dist_app.specs.Headline.{AreCompared, FollowIsProved, ProvesExplain, ProvesFollow, ProvesMisfit, ProvesPlan, ProvesSweep}
 use Rattle.dist_app.specs.Headline.{CheckRepairIsProved, ProvesCheckRepair, ProvesRepair, RepairIsProved, StepsAreProved, SweepIsProved}
 use Rattle.dist_commands.specs.PackagesStage.{PackagesStage}
-use Rattle.dist_commands.specs.Refusal.{status_of}
 use Rattle.dist_commands.specs.Repair.{RepairStages, Repairs, repair_writing}
-use Rattle.dist_app.specs.Run.{Decides}
+use Rattle.dist_app.specs.Run.{Comes, Decides, Runs}
 use Rattle.dist_commands.specs.Stages.{Ending, Goes}
 use Rattle.dist_commands.specs.SpaceStage.{IsSpaceOfFile, SpaceStage}
 use Rattle.dist_commands.specs.Steps.{IsNewestIn, StepsStages, TellsLater}
 use Rattle.dist_commands.specs.Sweeps.{SweepStages, Sweeps, sweep_writing}
 use Rattle.dist_commands.specs.WrittenFile.{IsWritten}
 use Rattle.dist_commands.specs.TextStage.{TextStage}
-use Rattle.dist_commands.specs.declared.refusal.Refusal.{Refusal}
 use Rattle.dist_commands.specs.declared.status.Status.{Status}
-use Rattle.dist_commands.specs.declared.status.Status.TheVariants.{Done, NotAFuture}
-use Rattle.dist_app.proofs.Refused.{IsRefusal, check_refuses, named_refuses, not_a_misfit, not_carried_out, numbers_refuse}
+use Rattle.dist_commands.specs.declared.status.Status.TheVariants.{Done, NoMemory, NotAFuture, ReadFault, WriteFault}
+use Rattle.dist_app.proofs.Refused.{IsRefusal, check_refuses, named_refuses, numbers_refuse}
 use Rattle.dist_app.proofs.Refused.{packages_refuses, plain_space_refuses, refusal_not_a_misfit}
 use Rattle.dist_app.proofs.Refused.{journal_refuses, refusal_not_carried_out, space_refuses, text_refuses}
-use Rattle.dist_app.proofs.SweepMeanings.{ClaimsHold, sweep_means}
+use Rattle.dist_app.proofs.Runs.{interrupted_status}
+use Rattle.dist_app.proofs.SweepMeanings.{sweep_means}
 
 -- words of a command decide by it
 pub of_line : (words : List (List ℕ)) (files : Option Files) (limits : Limits) (line : CommandLine) (ending : Ending) → command_of words ≡ Some line
@@ -157,11 +151,6 @@ module _ (limits : Limits) (packages cert : List ℕ) (result : Status) (desk de
 
 -- ---- `explain`
 
--- the law of the checker
-abbrev pub ExplanationsHold : Type 0
-ExplanationsHold = (r : PackageList) (limits : Limits) (text : List ℕ) (h : ExplainHeader) (explained : Explained) → IsInOrder r.packages
-    → IsExplanation r limits text h explained → ExplanationMeans r h explained
-
 module _ (hold : ExplanationsHold) (limits : Limits) (packages cert named : List ℕ) (limit : ℕ) (result : Status) (desk desk' : DeskView)
     (out out' : SinkView) (ending : Ending) (status_is : result ≡ ending.status) (carried : IsCarriedOut ending.status)
     (files : desk'.files ≡ ending.files) (printed : Grew ending.out out out') where
@@ -229,11 +218,6 @@ module _ (limits : Limits) (packages cert : List ℕ) (result : Status) (desk de
   check_repair_proves (inr (r, goes, inr (space, made, inr (accepted, judged, told)))) = checked_proves r space accepted goes made.0 judged told
 
 -- ---- `repair`
-
--- the law of the checker
-abbrev pub RepairsHold : Type 0
-RepairsHold = (s : SpaceView) (limits : Limits) (text numbers : List ℕ) (h : RepairHeader) (repair : Repair) → IsSpace s → IsHeaderOf numbers h
-    → IsAnsweredFile (repair_files s) limits text numbers (λ found. Answers s (asked_by numbers) found repair) → AcceptedSays s h repair
 
 module _ (hold : RepairsHold) (limits : Limits) (packages cert named : List ℕ) (most limit : ℕ) (result : Status) (desk desk' : DeskView)
     (out out' : SinkView) (ending : Ending) (status_is : result ≡ ending.status) (carried : IsCarriedOut ending.status)
@@ -386,86 +370,71 @@ module _ (limits : Limits) (packages cert journal : List ℕ) (desk desk' : Desk
 
 -- ---- runs
 
-pub sweep_proved : ClaimsHold → (words : List (List ℕ)) (limits : Limits) (result : Status) (desk desk' : DeskView) (out out' : SinkView)
-    → IsAnswered words limits desk desk' out out' result → SweepIsProved words limits result desk desk' out out'
-sweep_proved hold words limits result desk desk' out out' a kind packages cert essential limit is carried =
-    sweep_proves hold limits kind packages cert essential limit result desk desk' out out' a.ending a.status_is (subst IsCarriedOut a.status_is carried)
-    a.files a.printed
-    (of_line words desk.files limits (Sweep kind packages cert essential limit) a.ending is a.decides)
+module _ (words : List (List ℕ)) (limits : Limits) (result : Status) (desk desk' : DeskView) (out out' err err' : SinkView)
+    (runs : Runs words limits result desk desk' out out' err err') where
+  -- a status that no end has which may come at any time
+  decided : result ≢ ReadFault → result ≢ WriteFault → result ≢ NoMemory → (line : CommandLine) → command_of words ≡ Some line
+      → CommandDecides line desk.files limits runs.ending
+  decided read written stored line is = of_line words desk.files limits line runs.ending is (decides runs.comes)
+    where
+      decides : Comes words desk.files limits runs.ending → Decides words desk.files limits runs.ending
+      decides (inl of_inputs) = of_inputs
+      decides (inr interrupted) =
+          elim (interrupted_status words desk.files limits runs.ending interrupted) [
+            | inl e ↦ absurd (read (runs.ends.status ∙ e))
+            | inr (inl e) ↦ absurd (written (runs.ends.status ∙ e))
+            | inr (inr e) ↦ absurd (stored (runs.ends.status ∙ e))
+          ]
 
-pub check_proved : (words : List (List ℕ)) (limits : Limits) (result : Status) (desk desk' : DeskView) (out out' : SinkView)
-    → IsAnswered words limits desk desk' out out' result → CheckIsProved words limits result desk desk' out out'
-check_proved words limits result desk desk' out out' a packages cert is carried =
-    check_proves limits packages cert result desk desk' out out' a.ending a.status_is (subst IsCarriedOut a.status_is carried) a.files a.printed
-    (of_line words desk.files limits (Check packages cert) a.ending is a.decides)
+  module _ (carried : IsCarriedOut result) where
+    carried_line : (line : CommandLine) → command_of words ≡ Some line → CommandDecides line desk.files limits runs.ending
+    carried_line = decided (λ e. subst IsCarriedOut e carried) (λ e. subst IsCarriedOut e carried) (λ e. subst IsCarriedOut e carried)
 
-pub check_explain_proved : (words : List (List ℕ)) (limits : Limits) (result : Status) (desk desk' : DeskView) (out out' : SinkView)
-    → IsAnswered words limits desk desk' out out' result → CheckExplainIsProved words limits result desk desk' out out'
-check_explain_proved words limits result desk desk' out out' a packages cert is carried =
-    check_explain_proves limits packages cert result desk desk' out out' a.ending a.status_is (subst IsCarriedOut a.status_is carried) a.files a.printed
-    (of_line words desk.files limits (CheckExplain packages cert) a.ending is a.decides)
+    ended : IsCarriedOut runs.ending.status
+    ended = subst IsCarriedOut runs.ends.status carried
 
-pub check_explain_refused : (words : List (List ℕ)) (limits : Limits) (r : Refusal) (desk desk' : DeskView) (out out' : SinkView)
-    → CheckExplainIsProved words limits (status_of r) desk desk' out out'
-check_explain_refused words limits r desk desk' out out' packages cert is carried = absurd (not_carried_out r carried)
+  pub sweep_proved : ClaimsHold → SweepIsProved words limits result desk desk' out out'
+  sweep_proved hold kind packages cert essential limit is carried =
+      sweep_proves hold limits kind packages cert essential limit result desk desk' out out' runs.ending runs.ends.status (ended carried) runs.ends.files
+      runs.ends.printed (carried_line carried (Sweep kind packages cert essential limit) is)
 
-pub explain_proved : ExplanationsHold → (words : List (List ℕ)) (limits : Limits) (result : Status) (desk desk' : DeskView) (out out' : SinkView)
-    → IsAnswered words limits desk desk' out out' result → ExplainIsProved words limits result desk desk' out out'
-explain_proved hold words limits result desk desk' out out' a packages cert named limit is carried =
-    explain_proves hold limits packages cert named limit result desk desk' out out' a.ending a.status_is (subst IsCarriedOut a.status_is carried)
-    a.files a.printed (of_line words desk.files limits (Explain packages cert named limit) a.ending is a.decides)
+  pub check_proved : CheckIsProved words limits result desk desk' out out'
+  check_proved packages cert is carried =
+      check_proves limits packages cert result desk desk' out out' runs.ending runs.ends.status (ended carried) runs.ends.files runs.ends.printed
+      (carried_line carried (Check packages cert) is)
 
-pub explain_refused : (words : List (List ℕ)) (limits : Limits) (r : Refusal) (desk desk' : DeskView) (out out' : SinkView)
-    → ExplainIsProved words limits (status_of r) desk desk' out out'
-explain_refused words limits r desk desk' out out' packages cert named limit is carried = absurd (not_carried_out r carried)
+  pub explain_proved : ExplanationsHold → ExplainIsProved words limits result desk desk' out out'
+  explain_proved hold packages cert named limit is carried =
+      explain_proves hold limits packages cert named limit result desk desk' out out' runs.ending runs.ends.status (ended carried) runs.ends.files
+      runs.ends.printed (carried_line carried (Explain packages cert named limit) is)
 
-pub check_repair_proved : (words : List (List ℕ)) (limits : Limits) (result : Status) (desk desk' : DeskView) (out out' : SinkView)
-    → IsAnswered words limits desk desk' out out' result → CheckRepairIsProved words limits result desk desk' out out'
-check_repair_proved words limits result desk desk' out out' a packages cert is carried =
-    check_repair_proves limits packages cert result desk desk' out out' a.ending a.status_is (subst IsCarriedOut a.status_is carried) a.files a.printed
-    (of_line words desk.files limits (CheckRepair packages cert) a.ending is a.decides)
+  pub check_explain_proved : CheckExplainIsProved words limits result desk desk' out out'
+  check_explain_proved packages cert is carried =
+      check_explain_proves limits packages cert result desk desk' out out' runs.ending runs.ends.status (ended carried) runs.ends.files runs.ends.printed
+      (carried_line carried (CheckExplain packages cert) is)
 
-pub check_repair_refused : (words : List (List ℕ)) (limits : Limits) (r : Refusal) (desk desk' : DeskView) (out out' : SinkView)
-    → CheckRepairIsProved words limits (status_of r) desk desk' out out'
-check_repair_refused words limits r desk desk' out out' packages cert is carried = absurd (not_carried_out r carried)
+  pub repair_proved : RepairsHold → RepairIsProved words limits result desk desk' out out'
+  repair_proved hold packages cert named most limit is carried =
+      repair_proves hold limits packages cert named most limit result desk desk' out out' runs.ending runs.ends.status (ended carried) runs.ends.files
+      runs.ends.printed (carried_line carried (RepairLine packages cert named most limit) is)
 
-pub repair_proved : RepairsHold → (words : List (List ℕ)) (limits : Limits) (result : Status) (desk desk' : DeskView) (out out' : SinkView)
-    → IsAnswered words limits desk desk' out out' result → RepairIsProved words limits result desk desk' out out'
-repair_proved hold words limits result desk desk' out out' a packages cert named most limit is carried =
-    repair_proves hold limits packages cert named most limit result desk desk' out out' a.ending a.status_is (subst IsCarriedOut a.status_is carried)
-    a.files a.printed (of_line words desk.files limits (RepairLine packages cert named most limit) a.ending is a.decides)
+  pub check_repair_proved : CheckRepairIsProved words limits result desk desk' out out'
+  check_repair_proved packages cert is carried =
+      check_repair_proves limits packages cert result desk desk' out out' runs.ending runs.ends.status (ended carried) runs.ends.files runs.ends.printed
+      (carried_line carried (CheckRepair packages cert) is)
 
-pub repair_refused : (words : List (List ℕ)) (limits : Limits) (r : Refusal) (desk desk' : DeskView) (out out' : SinkView)
-    → RepairIsProved words limits (status_of r) desk desk' out out'
-repair_refused words limits r desk desk' out out' packages cert named most limit is carried = absurd (not_carried_out r carried)
+  steps_come : (packages later : List ℕ) → CommandDecides (Steps packages later) desk.files limits runs.ending
+      → (runs.ending.status ≡ Done → ProvesPlan limits packages later desk desk' out out')
+      × (runs.ending.status ≡ NotAFuture → ProvesMisfit limits packages later desk desk' out out')
+  steps_come packages later = steps_prove limits packages later desk desk' out out' runs.ending runs.ends.files runs.ends.printed
 
--- a refusal proves nothing of either
-pub sweep_refused : (words : List (List ℕ)) (limits : Limits) (r : Refusal) (desk desk' : DeskView) (out out' : SinkView)
-    → SweepIsProved words limits (status_of r) desk desk' out out'
-sweep_refused words limits r desk desk' out out' kind packages cert essential limit is carried = absurd (not_carried_out r carried)
+  pub steps_proved : StepsAreProved words limits result desk desk' out out'
+  steps_proved packages later is = (
+    λ done. (steps_come packages later (decided (λ e. cc) (λ e. cc) (λ e. cc) (Steps packages later) is)).0 (sym runs.ends.status ∙ done),
+    λ misfit. (steps_come packages later (decided (λ e. cc) (λ e. cc) (λ e. cc) (Steps packages later) is)).1 (sym runs.ends.status ∙ misfit),
+  )
 
-pub check_refused : (words : List (List ℕ)) (limits : Limits) (r : Refusal) (desk desk' : DeskView) (out out' : SinkView)
-    → CheckIsProved words limits (status_of r) desk desk' out out'
-check_refused words limits r desk desk' out out' packages cert is carried = absurd (not_carried_out r carried)
-
-pub steps_proved : (words : List (List ℕ)) (limits : Limits) (result : Status) (desk desk' : DeskView) (out out' : SinkView)
-    → IsAnswered words limits desk desk' out out' result → StepsAreProved words limits result desk desk' out out'
-steps_proved words limits result desk desk' out out' a packages later is =
-    let proves = steps_prove limits packages later desk desk' out out' a.ending a.files a.printed
-    (of_line words desk.files limits (Steps packages later) a.ending is a.decides) in
-    ((λ done. proves.0 (sym a.status_is ∙ done)), λ misfit. proves.1 (sym a.status_is ∙ misfit))
-
-pub steps_refused : (words : List (List ℕ)) (limits : Limits) (r : Refusal) (desk desk' : DeskView) (out out' : SinkView)
-    → StepsAreProved words limits (status_of r) desk desk' out out'
-steps_refused words limits r desk desk' out out' packages later is =
-    ((λ done. absurd (not_carried_out r (subst IsCarriedOut (sym done) tt))), λ misfit. absurd (not_a_misfit r misfit))
-
-pub follow_proved : (words : List (List ℕ)) (limits : Limits) (result : Status) (desk desk' : DeskView) (out out' : SinkView)
-    → IsAnswered words limits desk desk' out out' result → FollowIsProved words limits result desk desk' out out'
-follow_proved words limits result desk desk' out out' a packages cert journal is done =
-    follow_proves limits packages cert journal desk desk' out out' a.ending (sym a.status_is ∙ done) a.files a.printed
-    (of_line words desk.files limits (Follow packages cert journal) a.ending is a.decides)
-
-pub follow_refused : (words : List (List ℕ)) (limits : Limits) (r : Refusal) (desk desk' : DeskView) (out out' : SinkView)
-    → FollowIsProved words limits (status_of r) desk desk' out out'
-follow_refused words limits r desk desk' out out' packages cert journal is done = absurd (not_carried_out r (subst IsCarriedOut (sym done) tt))
+  pub follow_proved : FollowIsProved words limits result desk desk' out out'
+  follow_proved packages cert journal is done =
+      follow_proves limits packages cert journal desk desk' out out' runs.ending (sym runs.ends.status ∙ done) runs.ends.files runs.ends.printed
+      (decided (λ e. cc) (λ e. cc) (λ e. cc) (Follow packages cert journal) is)

@@ -9,6 +9,7 @@ use Rattle.dist_outside.specs.declared.trouble.WorkError.{WorkError}
 use Rattle.dist_outside.specs.declared.trouble.WorkError.TheVariants as work
 use Rattle.dist_words.specs.CommandLine.{CommandLine}
 use Rattle.dist_words.specs.Table.{IsBadWords, command_of}
+use Rattle.dist_app.specs.LawsPrivate.{AreExact}
 use Rattle.dist_app.specs.CarriedPrivate.{IsAnswered, IsRefused}
 use Rattle.dist_commands.specs.Refusal.{status_of, refusal_text}
 use Rattle.dist_app.specs.Run.{Decides, Refuses, Comes, IsCutShort, IsRunGivenUp, IsInterrupted, IsTold, Leaves, TellsFiles, Runs}
@@ -18,7 +19,7 @@ use Rattle.dist_commands.specs.declared.refusal.Refusal.{Refusal}
 use Rattle.dist_commands.specs.declared.refusal.Refusal.TheVariants as refusal
 use Rattle.dist_commands.specs.declared.status.Status.{Status}
 use Rattle.dist_commands.specs.declared.status.Status.TheVariants.{BadWords, ReadFault, WriteFault, NoMemory}
-use Rattle.dist_app.proofs.CommandLaws.{AreExact, decides_excludes, fault_excludes}
+use Rattle.dist_app.proofs.CommandLaws.{decides_excludes, fault_excludes}
 use Rattle.dist_app.proofs.Refused.{IsOfFiles, command_status, given_up_status, not_read_fault, not_write_fault, refuses_told}
 
 -- bad words alone exact their status
@@ -102,7 +103,7 @@ told_of text (Err work.ReadFault) old new (front, cause) = absurd cause
 told_of text (Err (work.TooLarge limit)) old new (front, cause) = absurd cause
 
 -- the status of an end that may come at any time
-interrupted_status : (words : List (List ℕ)) (files : Option Files) (limits : Limits) (ending : Ending) → IsInterrupted words files limits ending
+pub interrupted_status : (words : List (List ℕ)) (files : Option Files) (limits : Limits) (ending : Ending) → IsInterrupted words files limits ending
     → (ending.status ≡ ReadFault) ⊎ ((ending.status ≡ WriteFault) ⊎ (ending.status ≡ NoMemory))
 interrupted_status words files limits ending (inl (line, is_line, of_files, is)) = inl (ap (λ (e : Ending). e.status) is)
 interrupted_status words files limits ending (inr (inl is)) = inr (inr (ap (λ (e : Ending). e.status) is))

@@ -7,14 +7,10 @@ use Rattle.dist_cert.specs.declared.records.CertKind.{CertKind}
 use Rattle.dist_cert.specs.declared.records.Claim.{Claim}
 use Rattle.dist_cert.specs.declared.records.Header.{Header}
 use Rattle.dist_subject.specs.Completed.{IsCompleted}
-use Rattle.dist_subject.specs.Basis.{IsAccepted, matter_of}
+use Rattle.dist_subject.specs.Basis.{matter_of}
 use Rattle.dist_sweep.specs.Sweep.{IsSweep, header_of}
 use Rattle.dist_check.specs.Means.{Means}
-
--- the law of the checker
-abbrev pub ClaimsHold : Type 0
-ClaimsHold = (r : PackageList) (limits : Limits) (text : List ℕ) (h : Header) (made : List Claim) → IsInOrder r.packages → IsAccepted r limits text h made
-    → Means h.kind h.essential r made
+use Rattle.dist_app.specs.LawsPrivate.{ClaimsHold}
 
 completed_means : ClaimsHold → (r : PackageList) (limits : Limits) (text : List ℕ) (h : Header) (made : List Claim) → IsInOrder r.packages
     → IsCompleted r limits text h made → Means h.kind h.essential r made

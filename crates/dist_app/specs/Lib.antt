@@ -1,4 +1,5 @@
 pub mod CarriedPrivate
 pub mod Complete
 pub mod Headline
+pub mod LawsPrivate
 pub mod Run

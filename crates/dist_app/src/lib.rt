@@ -4,6 +4,7 @@
 //! `specs/Complete.antt` what it comes to where nothing is in its way. The commands are those of dist_commands.
 #![tactic(auto)]
 
+mod laws;
 mod top_call;
 
 pub use dist_commands::Status;

@@ -7,22 +7,9 @@ ghost use Rattle.dist_app.specs.Headline.{CheckExplainIsProved, CheckIsProved, C
 ghost use Rattle.dist_app.specs.Run.{Leaves, Runs};
 ghost use Rattle.dist_app.specs.CarriedPrivate.{IsAnswered, IsRefused, Prints};
 
-use dist_budget::{budgets_are_enough, explanation_budgets_are_enough, repair_budgets_are_enough};
-use dist_check::{
-    accepted_claims_hold, marks_are_tried, texts_have_one_answer, undecided_questions_are_hard,
-};
+use crate::laws::laws_hold;
 use dist_commands::{Answer, Refusal, Status, refusal_of, run_command, write_refusal};
-use dist_explain::{accepted_explanations_hold, explanations_have_one_answer};
-use dist_journal::journals_have_one_end;
-use dist_list::{lists_are_exact, names_are_exact};
-use dist_now::one_health;
 use dist_outside::{Desk, Limits, Sink, sink_grows, write_whole};
-use dist_package::packages_are_exact;
-use dist_repair::{accepted_repairs_hold, repairs_have_one_answer};
-use dist_repo::latest_is_one;
-use dist_space::spaces_are_one;
-use dist_space_clauses::space_clauses_are_one;
-use dist_subject::first_numbers_are_one;
 use dist_words::{WordsError, command_of};
 use std::alloc::Global;
 
@@ -97,26 +84,26 @@ pub fn run_with<D: Desk, W: Sink, E: Sink>(
     ensures hard { UndecidedAreHard limits.now }
     ensures tried { MarksAreTried limits.now }
 {
-    packages_are_exact();
-    one_health();
-    budgets_are_enough();
-    explanation_budgets_are_enough();
-    repair_budgets_are_enough();
-    texts_have_one_answer();
-    explanations_have_one_answer();
-    first_numbers_are_one();
-    lists_are_exact();
-    names_are_exact();
-    latest_is_one();
-    spaces_are_one();
-    space_clauses_are_one();
-    repairs_have_one_answer();
-    journals_have_one_end();
-    accepted_claims_hold();
-    accepted_explanations_hold();
-    accepted_repairs_hold();
-    undecided_questions_are_hard();
-    marks_are_tried();
+    // What this call tells is what the promises rest on.
+    laws_hold();
+    finish(alloc, words, desk, out, err, limits)
+}
+
+/// Carries out the command, and tells why where it was given up.
+fn finish<D: Desk, W: Sink, E: Sink>(
+    alloc: Global,
+    words: &[String],
+    desk: &mut D,
+    out: &mut W,
+    err: &mut E,
+    limits: &Limits,
+) -> Status
+    requires not_writing { IsNotWriting (D.view desk.old).mode }
+    requires within { IsWithinStated limits.now }
+    ensures { Runs (map string_bytes words.now) limits.now result (D.view desk.old) (D.view desk.new)
+        (W.view out.old) (W.view out.new) (E.view err.old) (E.view err.new) }
+{
+    laws_hold();
     sink_grows();
     match carry_out(alloc, words, desk, out, limits) {
         Ok(status) => status,
