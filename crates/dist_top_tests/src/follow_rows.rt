@@ -1,12 +1,12 @@
 //! Worked rows of `follow`: journals and what they leave, each fault of one, and faults of the other files.
-use crate::hold;
 use dist_app::Status;
 use dist_outside::What;
 use dist_top_rows::check_rows::{BAD_LINE, MAYBE_CHALLENGED, MAYBE_OUTDATED, TEN};
 use dist_top_rows::follow_rows::{BAD_JOURNAL, FOLLOWED, NOT_ABOVE, STOPPED};
 use dist_top_rows::{Failing, NOTHING, Row, Table, first_wrong};
+use std::test::Fail;
 
-const JOURNALS: &[Row] = &[
+const JOURNALS: [Row; 8] = [
     FOLLOWED,
     Row {
         list: "",
@@ -54,7 +54,7 @@ const FOLLOW: &[&str] = &["follow", "packages", "cert", "list"];
 const MOVE_TWO: &str =
     "= upload d 2\nPackage: d\nVersion: 2\n\n= upload c 2\nPackage: c\nVersion: 2\n";
 
-const CERTIFICATES: &[Row] = &[
+const CERTIFICATES: [Row; 4] = [
     // The status is 0 also where claims are left undecided, of which nothing is told. Lines go by clusters, and then by packages.
     Row {
         words: FOLLOW,
@@ -102,7 +102,7 @@ const BAD_SOURCE_JOURNAL: Row = Row {
     ..BAD_JOURNAL
 };
 
-const FAULTS: &[Row] = &[
+const FAULTS: [Row; 17] = [
     NOT_ABOVE,
     Row {
         list: "= removal p\n= removal p\n",
@@ -194,7 +194,7 @@ const TOO_LARGE: Row = Row {
     ..STOPPED
 };
 
-const STOPS: &[Row] = &[
+const STOPS: [Row; 11] = [
     // PACKAGES comes first, then CERT, and a fault of CERT is told as `check` tells it.
     Row {
         packages: "no colon\n",
@@ -270,14 +270,15 @@ const STOPS: &[Row] = &[
     },
 ];
 
-const TABLES: &[Table] = &[
-    ("journals are followed", JOURNALS),
-    ("certificates of all kinds are taken", CERTIFICATES),
-    ("faults of journals are told", FAULTS),
-    ("stops are told", STOPS),
+const TABLES: [Table; 4] = [
+    ("journals are followed", &JOURNALS),
+    ("certificates of all kinds are taken", &CERTIFICATES),
+    ("faults of journals are told", &FAULTS),
+    ("stops are told", &STOPS),
 ];
 
 #[test]
-fn follow_is_told(rt: HostRuntime) {
-    hold(&rt, first_wrong(rt.alloc(), TABLES));
+fn follow_is_told(rt: HostRuntime) -> Result<(), Fail> {
+    assert_eq!(rt; first_wrong(rt.alloc(), &TABLES)?, None);
+    Ok(())
 }
