@@ -10,7 +10,6 @@ use dist_samples::repository;
 use dist_space::{Space, space_of};
 use dist_version::Version;
 use std::alloc::Global;
-use std::process::Abort;
 
 /// A step of a row: the upload of a package's cluster at a version with the packages of some stanzas, the removal of a name, or
 /// some stanzas of a new name.
@@ -50,16 +49,34 @@ fn cluster_named(space: &Space, name: &str) -> Option<u32> {
     None
 }
 
+/// An upload of a cluster.
+fn upload_of(alloc: Global, cluster: u32, version: &str, stanzas: &str) -> Option<Step> {
+    match repository(alloc, stanzas) {
+        Some(block) => match Version::read(alloc, version.as_bytes()) {
+            Ok(version) => Some(Step::Upload(cluster, version, block)),
+            Err(_) => {
+                drop(block);
+                None
+            }
+        },
+        None => None,
+    }
+}
+
 /// The step that is told.
 pub(crate) fn step_of(alloc: Global, space: &Space, told: &Told) -> Option<Step> {
     match told {
-        Told::Upload(name, version, stanzas) => Some(Step::Upload(
-            cluster_named(space, name)?,
-            Version::read(alloc, version.as_bytes()).ok()?,
-            repository(alloc, stanzas)?,
-        )),
-        Told::Removal(name) => Some(Step::Removal(Name::read(alloc, name.as_bytes()).ok()?)),
-        Told::NewName(stanzas) => Some(Step::NewName(repository(alloc, stanzas)?)),
+        Told::Upload(name, version, stanzas) => {
+            upload_of(alloc, cluster_named(space, name)?, version, stanzas)
+        }
+        Told::Removal(name) => match Name::read(alloc, name.as_bytes()) {
+            Ok(name) => Some(Step::Removal(name)),
+            Err(_) => None,
+        },
+        Told::NewName(stanzas) => match repository(alloc, stanzas) {
+            Some(block) => Some(Step::NewName(block)),
+            None => None,
+        },
     }
 }
 
@@ -86,55 +103,74 @@ pub(crate) fn is_answered(
     archive: &mut Archive,
     told: &Told,
     refusal: Option<StepError>,
-) -> Option<bool> {
-    let step = step_of(alloc, archive.space(), told)?;
-    if can_take(archive, &step) {
-        Some(archive.apply(step).err() == refusal)
-    } else {
-        drop(step);
-        None
+) -> bool {
+    match step_of(alloc, archive.space(), told) {
+        Some(step) => {
+            if can_take(archive, &step) {
+                archive.apply(step).err() == refusal
+            } else {
+                drop(step);
+                false
+            }
+        }
+        None => false,
+    }
+}
+
+/// Whether the archive has a package of this name at this version.
+fn has(archive: &Archive, name: &str, version: &str) -> bool {
+    match archive.held(name.as_bytes()) {
+        Some(package) => package.version.text() == version.as_bytes() && same(package, package),
+        None => false,
     }
 }
 
 /// Whether the archive has exactly these packages.
 fn has_exactly(archive: &Archive, packages: &[(&str, &str)]) -> bool {
     for (name, version) in packages {
-        let Some(package) = archive.held(name.as_bytes()) else {
-            return false;
-        };
-        if package.version.text() != version.as_bytes() || !same(package, package) {
+        if !has(archive, name, version) {
             return false;
         }
     }
     archive.len() as usize == packages.len()
 }
 
-/// Whether steps are answered so, and leave these packages.
-fn goes(
-    alloc: Global,
-    archive: &mut Archive,
-    steps: &[(Told, Option<StepError>)],
-    packages: &[(&str, &str)],
-) -> Option<bool> {
+/// Whether steps are answered so.
+fn are_answered(alloc: Global, archive: &mut Archive, steps: &[(Told, Option<StepError>)]) -> bool {
     for (told, refusal) in steps {
-        if !is_answered(alloc, archive, told, *refusal)? {
-            return Some(false);
+        if !is_answered(alloc, archive, told, *refusal) {
+            return false;
         }
     }
-    Some(has_exactly(archive, packages))
+    true
+}
+
+/// The archive of some stanzas.
+fn archive_of(alloc: Global, stanzas: &str) -> Option<Archive> {
+    match space_of_stanzas(alloc, stanzas) {
+        Some(space) => start(alloc, space).ok(),
+        None => None,
+    }
 }
 
 /// Whether a row's steps are answered so, and leave these packages.
-fn is_so(alloc: Global, row: &Row) -> Option<bool> {
-    let mut archive = start(alloc, space_of_stanzas(alloc, row.1)?).ok()?;
-    let goes = goes(alloc, &mut archive, row.2, row.3);
-    drop(archive);
-    goes
+fn is_so(alloc: Global, row: &Row) -> bool {
+    match archive_of(alloc, row.1) {
+        Some(mut archive) => {
+            let so = are_answered(alloc, &mut archive, row.2) && has_exactly(&archive, row.3);
+            drop(archive);
+            so
+        }
+        None => false,
+    }
 }
 
-/// Runs rows.
-pub(crate) fn hold(rt: &(impl Abort + AllocGlobal), rows: &[Row]) {
+/// What the first row shows whose steps are answered otherwise, or leave other packages.
+pub(crate) fn wrong_row(alloc: Global, rows: &[Row]) -> Option<&'static str> {
     for row in rows {
-        assert!(rt; is_so(rt.alloc(), row) == Some(true), "{}", row.0);
+        if !is_so(alloc, row) {
+            return Some(row.0);
+        }
     }
+    None
 }

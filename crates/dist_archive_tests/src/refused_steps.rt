@@ -1,5 +1,5 @@
 //! Worked rows: each refusal, after which the archive is as before.
-use crate::archives::{Row, Told, hold};
+use crate::archives::{Row, Told, wrong_row};
 use dist_archive::StepError;
 
 /// Two packages of one source, and one that provides a name.
@@ -10,7 +10,7 @@ const ALL: &[(&str, &str)] = &[("a", "1"), ("b", "1"), ("p", "1")];
 
 const LIBRARY: &str = "Package: libx\nVersion: 1\nProvides: menu, abi (= 1)\n";
 
-const REFUSED: [Row; 17] = [
+const REFUSED: &[Row] = &[
     (
         "a block of another architecture comes first",
         "Package: a\nVersion: 1\nArchitecture: amd64\n",
@@ -245,5 +245,5 @@ const REFUSED: [Row; 17] = [
 
 #[test]
 fn steps_are_refused(rt: HostRuntime) {
-    hold(&rt, &REFUSED);
+    assert_eq!(rt; wrong_row(rt.alloc(), REFUSED), None);
 }

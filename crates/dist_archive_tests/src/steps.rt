@@ -1,5 +1,5 @@
 //! Worked rows: steps that are taken, and what they leave.
-use crate::archives::{Row, Told, hold};
+use crate::archives::{Row, Told, wrong_row};
 use dist_archive::{challenges_hold_after_steps, futures_are_reached, steps_reach_futures};
 
 /// Two packages of one source, and one that stands alone.
@@ -9,7 +9,7 @@ const PAIR: &str =
 /// A library that provides its interface at its own version, and a menu.
 const LIBRARY: &str = "Package: libx\nVersion: 1\nProvides: menu, abi (= 1), old (= 0)\n";
 
-const TAKEN: [Row; 9] = [
+const TAKEN: &[Row] = &[
     (
         "the archive begins as the repository",
         PAIR,
@@ -126,7 +126,7 @@ const TAKEN: [Row; 9] = [
 
 #[test]
 fn steps_are_taken(rt: HostRuntime) {
-    hold(&rt, &TAKEN);
+    assert_eq!(rt; wrong_row(rt.alloc(), TAKEN), None);
 }
 
 #[test]

@@ -5,7 +5,7 @@ use std::alloc::AllocError;
 use std::marker::Model;
 
 /// The package of a claim, what it is to name, and its pairs: those to be asked for, and those that were asked for and are listed.
-#[derive(Debug, Drop)]
+#[derive(Drop)]
 pub(crate) struct Group {
     pub(crate) claimed: u32,
     /// The variable of the package.

@@ -14,7 +14,7 @@ use std::marker::Model;
 
 /// The clusters that an installation uses, by their numbers from 1, rising, and each by a flag: whether one is used is asked for
 /// each pair.
-#[derive(Debug, Drop)]
+#[derive(Drop)]
 pub(crate) struct Used {
     numbers: Numbers,
     flags: Assignment,

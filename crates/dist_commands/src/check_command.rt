@@ -34,7 +34,11 @@ pub(crate) fn run_check<D: Desk>(
     ensures only_reads { OnlyReads (D.view desk.old) (D.view desk.new) }
 {
     match read_repository(alloc, desk, files.packages, limits) {
-        Ok(repository) => judge_certificate(alloc, desk, &repository, files.cert, limits),
+        Ok(repository) => {
+            let answer = judge_certificate(alloc, desk, &repository, files.cert, limits);
+            drop(repository);
+            answer
+        }
         Err(refusal) => Err(refusal),
     }
 }
@@ -57,10 +61,14 @@ fn judge_certificate<D: Desk>(
     ensures only_reads { OnlyReads (D.view desk.old) (D.view desk.new) }
 {
     match accept(alloc, desk, repository, cert, limits) {
-        Ok(accepted) => match report(alloc, repository, &accepted.header, &accepted.claims) {
-            Ok(answer) => Ok(answer),
-            Err(_) => Err(Refusal::NoMemory),
-        },
+        Ok(accepted) => {
+            let told = report(alloc, repository, &accepted.header, &accepted.claims);
+            drop(accepted);
+            match told {
+                Ok(answer) => Ok(answer),
+                Err(_) => Err(Refusal::NoMemory),
+            }
+        }
         Err(refusal) => Err(refusal),
     }
 }

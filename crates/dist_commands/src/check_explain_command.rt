@@ -34,7 +34,11 @@ pub(crate) fn run_check_explain<D: Desk>(
     ensures only_reads { OnlyReads (D.view desk.old) (D.view desk.new) }
 {
     match read_repository(alloc, desk, files.packages, limits) {
-        Ok(repository) => judge_explanation(alloc, desk, &repository, files.cert, limits),
+        Ok(repository) => {
+            let answer = judge_explanation(alloc, desk, &repository, files.cert, limits);
+            drop(repository);
+            answer
+        }
         Err(refusal) => Err(refusal),
     }
 }
@@ -58,12 +62,10 @@ fn judge_explanation<D: Desk>(
 {
     match accept_explanation(alloc, desk, repository, cert, limits) {
         Ok(accepted) => {
-            match tell_explained(
-                alloc,
-                repository,
-                accepted.header.package,
-                &accepted.explained,
-            ) {
+            let package = accepted.header.package;
+            let told = tell_explained(alloc, repository, package, &accepted.explained);
+            drop(accepted);
+            match told {
                 Ok(answer) => Ok(answer),
                 Err(_) => Err(Refusal::NoMemory),
             }

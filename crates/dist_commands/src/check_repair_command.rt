@@ -33,7 +33,11 @@ pub(crate) fn run_check_repair<D: Desk>(
     ensures only_reads { OnlyReads (D.view desk.old) (D.view desk.new) }
 {
     match read_space(alloc, desk, files.packages, limits) {
-        Ok(space) => judge_repair(alloc, desk, &space, files.cert, limits),
+        Ok(space) => {
+            let answer = judge_repair(alloc, desk, &space, files.cert, limits);
+            drop(space);
+            answer
+        }
         Err(refusal) => Err(refusal),
     }
 }
@@ -56,7 +60,9 @@ fn judge_repair<D: Desk>(
 {
     match accept_repair(alloc, desk, space, cert, limits) {
         Ok(accepted) => {
-            match tell_repair(alloc, space, accepted.header.package, &accepted.repair) {
+            let told = tell_repair(alloc, space, accepted.header.package, &accepted.repair);
+            drop(accepted);
+            match told {
                 Ok(answer) => Ok(answer),
                 Err(_) => Err(Refusal::NoMemory),
             }

@@ -36,7 +36,9 @@ pub(crate) fn report(
         CertKind::Strong => tell_claims(alloc, repository, header, claims),
         CertKind::Outdated | CertKind::Challenged => {
             let newest = repository.latest()?;
-            tell_claims(alloc, &newest, header, claims)
+            let answer = tell_claims(alloc, &newest, header, claims);
+            drop(newest);
+            answer
         }
     }
 }

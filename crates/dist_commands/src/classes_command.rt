@@ -32,10 +32,14 @@ pub(crate) fn run_classes<D: Desk>(
     ensures only_reads { OnlyReads (D.view desk.old) (D.view desk.new) }
 {
     match read_repository(alloc, desk, packages, limits) {
-        Ok(repository) => match tell_classes(alloc, &repository) {
-            Ok(answer) => Ok(answer),
-            Err(_) => Err(Refusal::NoMemory),
-        },
+        Ok(repository) => {
+            let told = tell_classes(alloc, &repository);
+            drop(repository);
+            match told {
+                Ok(answer) => Ok(answer),
+                Err(_) => Err(Refusal::NoMemory),
+            }
+        }
         Err(refusal) => Err(refusal),
     }
 }

@@ -42,7 +42,11 @@ pub(crate) fn run_explain<D: Desk>(
     ensures leaves { LeavesDesk (D.view desk.old) (D.view desk.new) }
 {
     match read_repository(alloc, desk, words.packages, limits) {
-        Ok(repository) => explain_named(alloc, desk, &repository, words, limits),
+        Ok(repository) => {
+            let answer = explain_named(alloc, desk, &repository, words, limits);
+            drop(repository);
+            answer
+        }
         Err(refusal) => Err(refusal),
     }
 }
@@ -101,10 +105,14 @@ fn write_explanation<D: Desk>(
         words.limit,
         limits,
     ) {
-        Ok(explained) => match tell_explained(alloc, repository, number, &explained) {
-            Ok(answer) => Ok(answer),
-            Err(_) => Err(Refusal::NoMemory),
-        },
+        Ok(explained) => {
+            let told = tell_explained(alloc, repository, number, &explained);
+            drop(explained);
+            match told {
+                Ok(answer) => Ok(answer),
+                Err(_) => Err(Refusal::NoMemory),
+            }
+        }
         Err(error) => Err(refusal_of(error)),
     }
 }

@@ -68,7 +68,11 @@ pub(crate) fn read_repository<D: Desk>(
     ensures only_reads { OnlyReads (D.view desk.old) (D.view desk.new) }
 {
     match text_of(alloc, desk, name, limits.bytes) {
-        Ok(text) => repository_of(alloc, &text, limits.stanzas),
+        Ok(text) => {
+            let repository = repository_of(alloc, &text, limits.stanzas);
+            drop(text);
+            repository
+        }
         Err(refusal) => Err(refusal),
     }
 }

@@ -67,8 +67,15 @@ fn follow_repository<D: Desk>(
     ensures only_reads { OnlyReads (D.view desk.old) (D.view desk.new) }
 {
     match accept(alloc, desk, &repository, files.cert, limits) {
-        Ok(accepted) => follow_accepted(alloc, desk, repository, &accepted, files.journal, limits),
-        Err(refusal) => Err(refusal),
+        Ok(accepted) => {
+            let answer = follow_accepted(alloc, desk, repository, &accepted, files.journal, limits);
+            drop(accepted);
+            answer
+        }
+        Err(refusal) => {
+            drop(repository);
+            Err(refusal)
+        }
     }
 }
 
@@ -122,7 +129,14 @@ fn follow_journal<D: Desk>(
     ensures only_reads { OnlyReads (D.view desk.old) (D.view desk.new) }
 {
     match text_of(alloc, desk, journal, limits.bytes) {
-        Ok(text) => make_steps(alloc, space, accepted, &text, limits.stanzas),
-        Err(refusal) => Err(refusal),
+        Ok(text) => {
+            let answer = make_steps(alloc, space, accepted, &text, limits.stanzas);
+            drop(text);
+            answer
+        }
+        Err(refusal) => {
+            drop(space);
+            Err(refusal)
+        }
     }
 }

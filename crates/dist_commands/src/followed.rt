@@ -102,11 +102,16 @@ pub(crate) fn make_steps(
         Ok(count) => {
             // What this call tells is that the archive is a future.
             let _held = archive.len();
-            match tell_followed(alloc, &archive, count, accepted) {
+            let told = tell_followed(alloc, &archive, count, accepted);
+            drop(archive);
+            match told {
                 Ok(answer) => Ok(answer),
                 Err(_) => Err(Refusal::NoMemory),
             }
         }
-        Err(error) => Err(refusal_of_journal(error)),
+        Err(error) => {
+            drop(archive);
+            Err(refusal_of_journal(error))
+        }
     }
 }

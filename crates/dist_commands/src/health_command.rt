@@ -36,7 +36,11 @@ pub(crate) fn run_health<D: Desk>(
     ensures only_reads { OnlyReads (D.view desk.old) (D.view desk.new) }
 {
     match read_repository(alloc, desk, files.packages, limits) {
-        Ok(repository) => judge_list(alloc, desk, &repository, files.list, limits),
+        Ok(repository) => {
+            let answer = judge_list(alloc, desk, &repository, files.list, limits);
+            drop(repository);
+            answer
+        }
         Err(refusal) => Err(refusal),
     }
 }
@@ -57,10 +61,14 @@ fn judge_list<D: Desk>(
     ensures only_reads { OnlyReads (D.view desk.old) (D.view desk.new) }
 {
     match read_members(alloc, desk, list, repository, limits) {
-        Ok(members) => match judge(alloc, repository, &members) {
-            Ok(answer) => Ok(answer),
-            Err(_) => Err(Refusal::NoMemory),
-        },
+        Ok(members) => {
+            let told = judge(alloc, repository, &members);
+            drop(members);
+            match told {
+                Ok(answer) => Ok(answer),
+                Err(_) => Err(Refusal::NoMemory),
+            }
+        }
         Err(refusal) => Err(refusal),
     }
 }
@@ -94,7 +102,11 @@ fn read_members<D: Desk>(
     ensures only_reads { OnlyReads (D.view desk.old) (D.view desk.new) }
 {
     match text_of(alloc, desk, name, limits.bytes) {
-        Ok(text) => members_of(alloc, repository, &text),
+        Ok(text) => {
+            let members = members_of(alloc, repository, &text);
+            drop(text);
+            members
+        }
         Err(refusal) => Err(refusal),
     }
 }

@@ -45,7 +45,11 @@ fn tell_reached(alloc: Global, space: &Space, later: &Repository) -> Result<Answ
     let _variables = space.variables();
     futures_are_reached();
     match reach(alloc, space, later) {
-        Ok(plan) => tell_plan(alloc, space, &plan),
+        Ok(plan) => {
+            let answer = tell_plan(alloc, space, &plan);
+            drop(plan);
+            answer
+        }
         Err(ReachError::NotAFuture(number)) => tell_misfit(alloc, later.package(number)),
         Err(ReachError::NoMemory) => Err(AllocError),
     }

@@ -9,7 +9,7 @@ use dist_outside::{What, WorkError};
 use dist_package::Fault;
 
 /// Why a run was given up, with what its line on `err` tells.
-#[derive(Clone, Copy, Debug, PartialEq, Eq)]
+#[derive(Clone, Copy)]
 pub enum Refusal {
     BadWords,
     BadPackages(Fault),

@@ -100,7 +100,11 @@ fn repair_in_space<D: Desk>(
     ensures leaves { LeavesDesk (D.view desk.old) (D.view desk.new) }
 {
     match space_within(alloc, newest, false, limits.variables) {
-        Ok(space) => write_repair(alloc, desk, &space, number, words, limits),
+        Ok(space) => {
+            let answer = write_repair(alloc, desk, &space, number, words, limits);
+            drop(space);
+            answer
+        }
         Err(refusal) => Err(refusal),
     }
 }
@@ -133,10 +137,14 @@ fn write_repair<D: Desk>(
         ..
     } = *words;
     match repair(alloc, space, number, most, desk, cert, limit, limits) {
-        Ok(made) => match tell_repair(alloc, space, number, &made) {
-            Ok(answer) => Ok(answer),
-            Err(_) => Err(Refusal::NoMemory),
-        },
+        Ok(made) => {
+            let told = tell_repair(alloc, space, number, &made);
+            drop(made);
+            match told {
+                Ok(answer) => Ok(answer),
+                Err(_) => Err(Refusal::NoMemory),
+            }
+        }
         Err(error) => Err(refusal_of(error)),
     }
 }

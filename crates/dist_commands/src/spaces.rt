@@ -71,7 +71,9 @@ pub(crate) fn space_of_file(
         → IsPartGivenUp (λ ending. SpaceStage files limits.now essential repository (Ends ending)) files refusal) }
     ensures within_size { IfOk result (λ space. IsWithinSize space.repository) }
 {
-    match newest_of(&repository) {
+    let newest = newest_of(&repository);
+    drop(repository);
+    match newest {
         Ok(newest) => space_within(alloc, newest, essential, limits.variables),
         Err(refusal) => Err(refusal),
     }
@@ -111,7 +113,11 @@ pub(crate) fn read_newest<D: Desk>(
     ensures only_reads { OnlyReads (D.view desk.old) (D.view desk.new) }
 {
     match read_repository(alloc, desk, name, limits) {
-        Ok(repository) => newest_of(&repository),
+        Ok(repository) => {
+            let newest = newest_of(&repository);
+            drop(repository);
+            newest
+        }
         Err(refusal) => Err(refusal),
     }
 }

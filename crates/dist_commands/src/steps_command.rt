@@ -33,7 +33,11 @@ pub(crate) fn run_steps<D: Desk>(
     ensures only_reads { OnlyReads (D.view desk.old) (D.view desk.new) }
 {
     match read_space(alloc, desk, files.packages, limits) {
-        Ok(space) => compare_later(alloc, desk, &space, files.later, limits),
+        Ok(space) => {
+            let answer = compare_later(alloc, desk, &space, files.later, limits);
+            drop(space);
+            answer
+        }
         Err(refusal) => Err(refusal),
     }
 }
@@ -55,10 +59,14 @@ fn compare_later<D: Desk>(
     ensures only_reads { OnlyReads (D.view desk.old) (D.view desk.new) }
 {
     match read_newest(alloc, desk, later, limits) {
-        Ok(newest) => match tell_later(alloc, space, &newest) {
-            Ok(answer) => Ok(answer),
-            Err(_) => Err(Refusal::NoMemory),
-        },
+        Ok(newest) => {
+            let told = tell_later(alloc, space, &newest);
+            drop(newest);
+            match told {
+                Ok(answer) => Ok(answer),
+                Err(_) => Err(Refusal::NoMemory),
+            }
+        }
         Err(refusal) => Err(refusal),
     }
 }

@@ -43,7 +43,11 @@ pub(crate) fn run_sweep<D: Desk>(
     ensures leaves { LeavesDesk (D.view desk.old) (D.view desk.new) }
 {
     match read_repository(alloc, desk, words.packages, limits) {
-        Ok(repository) => sweep(alloc, desk, &repository, words, limits),
+        Ok(repository) => {
+            let answer = sweep(alloc, desk, &repository, words, limits);
+            drop(repository);
+            answer
+        }
         Err(refusal) => Err(refusal),
     }
 }
@@ -68,10 +72,14 @@ fn sweep<D: Desk>(
     ensures leaves { LeavesDesk (D.view desk.old) (D.view desk.new) }
 {
     match write_certificate(alloc, desk, repository, words, limits) {
-        Ok(claims) => match report(alloc, repository, &told_line(words), &claims) {
-            Ok(answer) => Ok(answer),
-            Err(_) => Err(Refusal::NoMemory),
-        },
+        Ok(claims) => {
+            let told = report(alloc, repository, &told_line(words), &claims);
+            drop(claims);
+            match told {
+                Ok(answer) => Ok(answer),
+                Err(_) => Err(Refusal::NoMemory),
+            }
+        }
         Err(error) => Err(refusal_of(error)),
     }
 }

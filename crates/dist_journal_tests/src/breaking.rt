@@ -19,7 +19,7 @@ type Row = (
 );
 
 /// Of cluster 0, whose classes are below 3, 3 and above, and cluster 1, whose classes are below 2, 2 and above.
-const ROWS: [Row; 7] = [
+const ROWS: &[Row] = &[
     (
         "nothing has moved",
         "",
@@ -88,12 +88,22 @@ fn claim_of(alloc: Global, pairs: &[(u32, u32)]) -> Option<Claim> {
     }
 }
 
-/// Adds claims with these pairs.
-fn add_claims(alloc: Global, claims: &mut Claims, all: &[&[(u32, u32)]]) -> Option<()> {
-    for pairs in all {
-        claims.push(claim_of(alloc, pairs)?).ok()?;
+/// Adds a claim with these pairs.
+fn add_claim(alloc: Global, claims: &mut Claims, pairs: &[(u32, u32)]) -> bool {
+    match claim_of(alloc, pairs) {
+        Some(claim) => claims.push(claim).is_ok(),
+        None => false,
     }
-    Some(())
+}
+
+/// Adds claims with these pairs.
+fn add_claims(alloc: Global, claims: &mut Claims, all: &[&[(u32, u32)]]) -> bool {
+    for pairs in all {
+        if !add_claim(alloc, claims, pairs) {
+            return false;
+        }
+    }
+    true
 }
 
 /// Whether a list has exactly these packages, each by its cluster.
@@ -133,8 +143,7 @@ fn breaks(
     wanted: &[(u32, u32)],
 ) -> bool {
     let mut claims = Claims::new(alloc);
-    let so = add_claims(alloc, &mut claims, pairs).is_some()
-        && are_broken(alloc, archive, &claims, wanted);
+    let so = add_claims(alloc, &mut claims, pairs) && are_broken(alloc, archive, &claims, wanted);
     drop(claims);
     so
 }
@@ -150,9 +159,17 @@ fn is_so(alloc: Global, row: &Row) -> bool {
     so
 }
 
+/// What the first row shows that breaks something else.
+fn wrong_row(alloc: Global, rows: &[Row]) -> Option<&'static str> {
+    for row in rows {
+        if !is_so(alloc, row) {
+            return Some(row.0);
+        }
+    }
+    None
+}
+
 #[test]
 fn moved_clusters_break_packages(rt: HostRuntime) {
-    for row in &ROWS {
-        assert!(rt; is_so(rt.alloc(), row), "{}", row.0);
-    }
+    assert_eq!(rt; wrong_row(rt.alloc(), ROWS), None);
 }

@@ -10,8 +10,11 @@ use std::alloc::Global;
 const JOURNAL: &str =
     "= upload libx 2\nPackage: libx\nVersion: 2\n\n= new\nPackage: foo\nVersion: 1\n";
 
-/// How many bytes have an answer, one row after another.
-const CUTS: [(usize, Result<u32, FollowError>); 17] = [
+/// How many bytes have an answer.
+type Cuts = (usize, Result<u32, FollowError>);
+
+/// One after another.
+const CUTS: &[Cuts] = &[
     // Nothing; an equals sign alone; a step line that is not whole.
     (1, Ok(0)),
     (1, Err(Bad(1, Stray))),
@@ -58,14 +61,38 @@ fn is_so(alloc: Global, bytes: usize, wanted: Result<u32, FollowError>) -> bool 
     so
 }
 
-#[test]
-fn each_cut_is_answered(rt: HostRuntime) {
-    let mut bytes = 0usize;
-    for (many, wanted) in &CUTS {
-        for _ in 0..*many {
-            assert!(rt; is_so(rt.alloc(), bytes, *wanted), "at {bytes}");
-            bytes = bytes.saturating_add(1);
+/// The first cut of so many, from some bytes on, that is answered otherwise.
+fn wrong_cut(
+    alloc: Global,
+    bytes: usize,
+    many: usize,
+    wanted: Result<u32, FollowError>,
+) -> Option<usize> {
+    for length in bytes..bytes.saturating_add(many) {
+        if !is_so(alloc, length, wanted) {
+            return Some(length);
         }
     }
-    assert!(rt; bytes == JOURNAL.len() + 1, "all cuts are told");
+    None
+}
+
+/// The first cut that is answered otherwise, or of which nothing is told.
+fn wrong_cut_of(alloc: Global, rows: &[Cuts]) -> Option<usize> {
+    let mut bytes = 0usize;
+    for (many, wanted) in rows {
+        if let Some(wrong) = wrong_cut(alloc, bytes, *many, *wanted) {
+            return Some(wrong);
+        }
+        bytes = bytes.saturating_add(*many);
+    }
+    if bytes == JOURNAL.len() + 1 {
+        None
+    } else {
+        Some(bytes)
+    }
+}
+
+#[test]
+fn each_cut_is_answered(rt: HostRuntime) {
+    assert_eq!(rt; wrong_cut_of(rt.alloc(), CUTS), None);
 }

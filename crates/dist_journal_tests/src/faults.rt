@@ -1,5 +1,5 @@
 //! Worked rows: each fault, at its line, after which the steps before it stand made.
-use crate::journals::{Row, hold};
+use crate::journals::{Row, wrong_row};
 use dist_archive::StepError::{
     HasProvides, NameTaken, NameVirtual, NotAbove, NotAtVersion, NotHeld, NotMember, NotOne,
     OtherArchitecture, WrongProvides,
@@ -10,7 +10,7 @@ use dist_samples::LIBRARY;
 
 const BOTH: &[(&str, &str)] = &[("libx", "1"), ("p", "1")];
 
-const FORMS: [Row; 15] = [
+const FORMS: &[Row] = &[
     (
         "a line before the first step line",
         "\n \nPackage: foo\nVersion: 1\n= removal x y\n",
@@ -98,7 +98,7 @@ const FORMS: [Row; 15] = [
     ),
 ];
 
-const REFUSALS: [Row; 10] = [
+const REFUSALS: &[Row] = &[
     (
         "a block of another architecture",
         "= new\nPackage: a\nVersion: 1\nArchitecture: i386\n",
@@ -163,7 +163,7 @@ const REFUSALS: [Row; 10] = [
 
 const PROVIDED: &str = "Package: p\nVersion: 1\nProvides: m\n";
 
-const REFUSED: [Row; 1] = [(
+const REFUSED: &[Row] = &[(
     "a new name that is provided",
     "= removal p\n\n= new\nPackage: m\nVersion: 1\n",
     Err(Bad(3, Refused(NameVirtual))),
@@ -172,11 +172,11 @@ const REFUSED: [Row; 1] = [(
 
 #[test]
 fn faults_are_told_at_their_lines(rt: HostRuntime) {
-    hold(&rt, LIBRARY, &FORMS);
+    assert_eq!(rt; wrong_row(rt.alloc(), LIBRARY, FORMS), None);
 }
 
 #[test]
 fn refusals_are_told_at_the_step_line(rt: HostRuntime) {
-    hold(&rt, LIBRARY, &REFUSALS);
-    hold(&rt, PROVIDED, &REFUSED);
+    assert_eq!(rt; wrong_row(rt.alloc(), LIBRARY, REFUSALS), None);
+    assert_eq!(rt; wrong_row(rt.alloc(), PROVIDED, REFUSED), None);
 }

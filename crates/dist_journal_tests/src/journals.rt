@@ -7,7 +7,6 @@ use dist_journal::{FollowError, follow};
 use dist_samples::repository;
 use dist_space::{Space, space_of};
 use std::alloc::Global;
-use std::process::Abort;
 
 /// What a row shows, the journal, the answer, and what is held after it: names and versions.
 pub(crate) type Row = (
@@ -30,7 +29,10 @@ fn space_of_stanzas(alloc: Global, stanzas: &str) -> Option<Space> {
 
 /// The archive of some stanzas.
 pub(crate) fn archive_of(alloc: Global, stanzas: &str) -> Option<Archive> {
-    start(alloc, space_of_stanzas(alloc, stanzas)?).ok()
+    match space_of_stanzas(alloc, stanzas) {
+        Some(space) => start(alloc, space).ok(),
+        None => None,
+    }
 }
 
 /// Whether the packages and the bytes are few enough.
@@ -112,9 +114,12 @@ fn is_so(alloc: Global, stanzas: &str, row: &Row) -> bool {
     so
 }
 
-/// Runs rows over some stanzas.
-pub(crate) fn hold(rt: &(impl Abort + AllocGlobal), stanzas: &str, rows: &[Row]) {
+/// What the first row over some stanzas shows that is answered otherwise, or leaves other packages.
+pub(crate) fn wrong_row(alloc: Global, stanzas: &str, rows: &[Row]) -> Option<&'static str> {
     for row in rows {
-        assert!(rt; is_so(rt.alloc(), stanzas, row), "{}", row.0);
+        if !is_so(alloc, stanzas, row) {
+            return Some(row.0);
+        }
     }
+    None
 }

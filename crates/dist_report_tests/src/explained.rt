@@ -5,7 +5,6 @@ use dist_repo::Repository;
 use dist_report::explained_text;
 use dist_samples::repository;
 use std::alloc::Global;
-use std::process::Abort;
 
 /// Package a needs b or c, and b conflicts with a.
 const NEEDS_ENEMY: &str =
@@ -14,7 +13,7 @@ const NEEDS_ENEMY: &str =
 /// Relations that are needed, those that are undecided, and the text on package a.
 type Row = (&'static [u32], &'static [u32], &'static str);
 
-const TEXTS: [Row; 4] = [
+const TEXTS: &[Row] = &[
     (
         &[1, 2],
         &[],
@@ -37,37 +36,79 @@ const TEXTS: [Row; 4] = [
 /// Whether the text of an answer on the first package is this one.
 fn text_is(alloc: Global, repo: &Repository, explained: &Explained, expected: &str) -> bool {
     match explained_text(alloc, repo, 0, explained) {
-        Ok(text) => text.as_slice() == expected.as_bytes(),
+        Ok(text) => {
+            let same = text.as_slice() == expected.as_bytes();
+            drop(text);
+            same
+        }
         Err(_) => false,
+    }
+}
+
+/// What is told of a row.
+fn explained_of(alloc: Global, row: &Row) -> Option<Explained> {
+    match row.0.to_vec(alloc) {
+        Ok(needed) => match row.1.to_vec(alloc) {
+            Ok(undecided) => Some(Explained::Broken(
+                Items::from_vec(needed),
+                Items::from_vec(undecided),
+            )),
+            Err(_) => {
+                drop(needed);
+                None
+            }
+        },
+        Err(_) => None,
+    }
+}
+
+/// Whether the text of a row's relations over its repository is its text.
+fn is_told(alloc: Global, repo: &Repository, row: &Row) -> bool {
+    match explained_of(alloc, row) {
+        Some(explained) => {
+            let told = text_is(alloc, repo, &explained, row.2);
+            drop(explained);
+            told
+        }
+        None => false,
     }
 }
 
 /// Whether the text of a row's relations is its text.
 fn is_so(alloc: Global, row: &Row) -> bool {
-    let Some(repo) = repository(alloc, NEEDS_ENEMY) else {
-        return false;
-    };
-    let Ok(needed) = row.0.to_vec(alloc) else {
-        return false;
-    };
-    let Ok(undecided) = row.1.to_vec(alloc) else {
-        return false;
-    };
-    let explained = Explained::Broken(Items::from_vec(needed), Items::from_vec(undecided));
-    text_is(alloc, &repo, &explained, row.2)
+    match repository(alloc, NEEDS_ENEMY) {
+        Some(repo) => {
+            let so = is_told(alloc, &repo, row);
+            drop(repo);
+            so
+        }
+        None => false,
+    }
+}
+
+/// The first text that is another one.
+fn wrong_text(alloc: Global, rows: &[Row]) -> Option<&'static str> {
+    for row in rows {
+        if !is_so(alloc, row) {
+            return Some(row.2);
+        }
+    }
+    None
 }
 
 #[test]
 fn relations_are_told(rt: HostRuntime) {
-    for row in &TEXTS {
-        assert!(rt; is_so(rt.alloc(), row), "{}", row.2);
-    }
+    assert_eq!(rt; wrong_text(rt.alloc(), TEXTS), None);
 }
 
 /// Whether a package that can be installed has its text.
 fn installable_is(alloc: Global, expected: &str) -> bool {
     match repository(alloc, NEEDS_ENEMY) {
-        Some(repo) => text_is(alloc, &repo, &Explained::Installable, expected),
+        Some(repo) => {
+            let so = text_is(alloc, &repo, &Explained::Installable, expected);
+            drop(repo);
+            so
+        }
         None => false,
     }
 }

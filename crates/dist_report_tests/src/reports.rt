@@ -47,7 +47,11 @@ fn classes_are(alloc: Global, repo: &Repository, expected: &str) -> bool {
         return false;
     }
     match classes_text(alloc, repo) {
-        Ok(text) => text.as_slice() == expected.as_bytes(),
+        Ok(text) => {
+            let same = text.as_slice() == expected.as_bytes();
+            drop(text);
+            same
+        }
         Err(_) => false,
     }
 }
@@ -55,7 +59,11 @@ fn classes_are(alloc: Global, repo: &Repository, expected: &str) -> bool {
 /// Whether the report of some stanzas is this text.
 fn report_is(alloc: Global, stanzas: &str, expected: &str) -> bool {
     match repository(alloc, stanzas) {
-        Some(repo) => classes_are(alloc, &repo, expected),
+        Some(repo) => {
+            let so = classes_are(alloc, &repo, expected);
+            drop(repo);
+            so
+        }
         None => false,
     }
 }
@@ -76,15 +84,21 @@ const VERSIONS: &str = "Package: a\nVersion: 1\nSource: s\n\nPackage: a\nVersion
 /// Whether the label of the first package is this text.
 fn label_is(alloc: Global, repo: &Repository, expected: &str) -> bool {
     let mut out = Vec::new(alloc);
-    repo.len() > 0
+    let so = repo.len() > 0
         && print_label(repo.package(0), &mut out).is_ok()
-        && out.as_slice() == expected.as_bytes()
+        && out.as_slice() == expected.as_bytes();
+    drop(out);
+    so
 }
 
 /// Whether the label of the first of two versions is this text.
 fn first_label_is(alloc: Global, expected: &str) -> bool {
     match repository(alloc, VERSIONS) {
-        Some(repo) => label_is(alloc, &repo, expected),
+        Some(repo) => {
+            let so = label_is(alloc, &repo, expected);
+            drop(repo);
+            so
+        }
         None => false,
     }
 }
@@ -99,7 +113,11 @@ fn health_is(alloc: Global, repo: &Repository, health: &Health, expected: &str) 
     requires { HasText repo.now.packages health.now }
 {
     match health_text(alloc, repo, health) {
-        Ok(line) => line.as_slice() == expected.as_bytes(),
+        Ok(line) => {
+            let same = line.as_slice() == expected.as_bytes();
+            drop(line);
+            same
+        }
         Err(_) => false,
     }
 }
@@ -120,7 +138,11 @@ fn healths_are(alloc: Global, repo: &Repository) -> bool {
 /// Whether each health of the two versions has its line.
 fn healths_are_told(alloc: Global) -> bool {
     match repository(alloc, VERSIONS) {
-        Some(repo) => healths_are(alloc, &repo),
+        Some(repo) => {
+            let so = healths_are(alloc, &repo);
+            drop(repo);
+            so
+        }
         None => false,
     }
 }

@@ -2,7 +2,7 @@
 ghost use Rattle.std.specs.Prelude.{◌≡◌, IfSome};
 ghost use Rattle.dist_clause.specs.Formula.{IsClauseOver};
 
-use crate::derived_lines::append;
+use crate::derived_lines::number_of;
 use dist_clause::{ClauseSet, Lit};
 use dist_derive::{Log, Scratch, VariableSet};
 use dist_samples::{clause, push_all};
@@ -44,16 +44,19 @@ fn are_found(log: &Log) -> bool {
         && stands_in(log, Lit::new(4, true), &[])
 }
 
-/// Whether they are found in a line that came later too.
+/// Whether they are found in a line of this number too.
+fn are_found_in(log: &Log, number: u32) -> bool {
+    stands_in(log, Lit::new(3, true), &[number, 2, 1])
+        && stands_in(log, Lit::new(1, false), &[number, 1])
+}
+
+/// The same of a line that comes later.
 fn are_found_later(alloc: Global, log: &mut Log) -> bool
     requires { log.old.variables ≡ 5 }
 {
-    match append(alloc, log, &[3, -1]) {
-        Some(Ok(number)) => {
-            stands_in(log, Lit::new(3, true), &[number, 2, 1])
-                && stands_in(log, Lit::new(1, false), &[number, 1])
-        }
-        _ => false,
+    match number_of(alloc, log, &[3, -1]) {
+        Some(number) => are_found_in(log, number),
+        None => false,
     }
 }
 
@@ -186,10 +189,10 @@ fn is_told(alloc: Global, row: &New, is_covered: bool) -> bool {
     }
 }
 
-/// The place of the first row that is told otherwise.
-fn wrong_new(alloc: Global, rows: &[New], is_covered: bool) -> Option<usize> {
+/// The place of the first row that is told otherwise, with the index or without.
+fn wrong_new(alloc: Global, rows: &[New]) -> Option<usize> {
     for place in 0..rows.len() {
-        if !is_told(alloc, &rows[place], is_covered) {
+        if !is_told(alloc, &rows[place], true) || !is_told(alloc, &rows[place], false) {
             return Some(place);
         }
     }
@@ -198,8 +201,7 @@ fn wrong_new(alloc: Global, rows: &[New], is_covered: bool) -> Option<usize> {
 
 #[test]
 fn an_index_answers_as_a_walk_does(rt: HostRuntime) {
-    assert_eq!(rt; wrong_new(rt.alloc(), NEW, true), None);
-    assert_eq!(rt; wrong_new(rt.alloc(), NEW, false), None);
+    assert_eq!(rt; wrong_new(rt.alloc(), NEW), None);
 }
 
 /// Lines, and whether all of them are new, each when it came.
@@ -217,7 +219,7 @@ fn append_all(alloc: Global, log: &mut Log, lines: &[&[i32]]) -> bool
     ensures { log.new.variables ≡ 5 }
 {
     for line in lines {
-        if !matches!(append(alloc, log, line), Some(Ok(_))) {
+        if number_of(alloc, log, line).is_none() {
             return false;
         }
     }
@@ -331,10 +333,10 @@ fn is_held(alloc: Global, row: &Trues, is_covered: bool) -> bool {
     }
 }
 
-/// The place of the first row that holds otherwise.
-fn wrong_trues(alloc: Global, rows: &[Trues], is_covered: bool) -> Option<usize> {
+/// The place of the first row that holds otherwise, with the index or without.
+fn wrong_trues(alloc: Global, rows: &[Trues]) -> Option<usize> {
     for place in 0..rows.len() {
-        if !is_held(alloc, &rows[place], is_covered) {
+        if !is_held(alloc, &rows[place], true) || !is_held(alloc, &rows[place], false) {
             return Some(place);
         }
     }
@@ -343,6 +345,5 @@ fn wrong_trues(alloc: Global, rows: &[Trues], is_covered: bool) -> Option<usize>
 
 #[test]
 fn models_are_told_apart(rt: HostRuntime) {
-    assert_eq!(rt; wrong_trues(rt.alloc(), TRUES, true), None);
-    assert_eq!(rt; wrong_trues(rt.alloc(), TRUES, false), None);
+    assert_eq!(rt; wrong_trues(rt.alloc(), TRUES), None);
 }

@@ -45,11 +45,7 @@ const APPENDED: &[Appended] = &[
 ];
 
 /// What a log of five variables answers to a line.
-pub(crate) fn append(
-    alloc: Global,
-    log: &mut Log,
-    numbers: &[i32],
-) -> Option<Result<u32, AppendError>>
+fn append(alloc: Global, log: &mut Log, numbers: &[i32]) -> Option<Result<u32, AppendError>>
     requires { log.old.variables ≡ 5 }
     ensures { log.new.variables ≡ 5 }
 {
@@ -59,6 +55,17 @@ pub(crate) fn append(
             drop(line);
             Some(answer)
         }
+        None => None,
+    }
+}
+
+/// The number of a line that a log of five variables takes.
+pub(crate) fn number_of(alloc: Global, log: &mut Log, numbers: &[i32]) -> Option<u32>
+    requires { log.old.variables ≡ 5 }
+    ensures { log.new.variables ≡ 5 }
+{
+    match append(alloc, log, numbers) {
+        Some(answer) => answer.ok(),
         None => None,
     }
 }
@@ -274,7 +281,7 @@ fn takes_line(alloc: Global, log: &mut Log, row: &New) -> bool
     requires { log.old.variables ≡ 5 }
     ensures { log.new.variables ≡ 5 }
 {
-    row.1.is_empty() || matches!(append(alloc, log, row.1), Some(Ok(_)))
+    row.1.is_empty() || number_of(alloc, log, row.1).is_some()
 }
 
 /// Whether the clause of a row is new or not, as the row says.

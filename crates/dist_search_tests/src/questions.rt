@@ -132,7 +132,7 @@ fn solver_of(alloc: Global, puzzle: Puzzle, lines: u32, literals: u32) -> Option
 }
 
 /// What a question came to.
-#[derive(Clone, Copy, Debug, PartialEq, Eq)]
+#[derive(Clone, Copy, PartialEq, Eq)]
 enum Seen {
     Found,
     Refuted,

@@ -8,7 +8,7 @@ use std::alloc::{AllocError, AllocFailed};
 use std::marker::Model;
 
 /// Numbers of clauses, by which a clause follows.
-#[derive(Debug, Drop)]
+#[derive(Drop)]
 pub struct Hints {
     numbers: Vec<u32>,
 }
@@ -38,7 +38,7 @@ impl Hints {
 }
 
 /// The answer to a question.
-#[derive(Debug, Drop)]
+#[derive(Drop)]
 pub enum Answer {
     /// A model of the input clauses in which the assumptions are true.
     Found(Assignment),

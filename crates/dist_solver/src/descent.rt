@@ -22,7 +22,7 @@ use dist_derive::{
 use std::alloc::{AllocError, Global};
 
 /// How a descent ends.
-#[derive(Debug, Drop)]
+#[derive(Drop)]
 pub(crate) enum Descent {
     /// A model in which the assumptions are true.
     Model(Assignment),

@@ -43,14 +43,19 @@ impl Guesses {
         ensures { IfOk result (λ guesses. guesses ≡ variables) }
     {
         let quick = Quick::new(alloc, variables)?;
-        let tests = Tests::new(alloc, variables)?;
-        Ok(Guesses {
-            quick,
-            watched: Watched::new(alloc, variables),
-            guessing: true,
-            stands: false,
-            tests,
-        })
+        match Tests::new(alloc, variables) {
+            Ok(tests) => Ok(Guesses {
+                quick,
+                watched: Watched::new(alloc, variables),
+                guessing: true,
+                stands: false,
+                tests,
+            }),
+            Err(error) => {
+                drop(quick);
+                Err(error)
+            }
+        }
     }
 
     /// The answer that the quick phase guesses, where it passes its test.

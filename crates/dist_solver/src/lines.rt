@@ -8,14 +8,14 @@ use std::alloc::{AllocError, Global};
 use std::marker::Model;
 
 /// A line's number, and the place of its hints.
-#[derive(Clone, Copy, Debug)]
+#[derive(Clone, Copy)]
 struct Line {
     number: u32,
     place: usize,
 }
 
 /// Derived lines in their order: the number of each and its hints.
-#[derive(Debug, Drop)]
+#[derive(Drop)]
 pub struct Derived {
     lines: Vec<Line>,
     /// The hints of all lines, one list after another. A list that no line has the place of is never read.

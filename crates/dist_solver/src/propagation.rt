@@ -11,7 +11,7 @@ use dist_derive::{Log, Outcome, unit_steps_are_hints};
 use std::alloc::{AllocError, Global};
 
 /// What a walk over the clauses found.
-#[derive(Clone, Copy, Debug)]
+#[derive(Clone, Copy)]
 pub(crate) enum Sweep {
     /// The number of a clause with no literal but false ones.
     Conflict(u32),

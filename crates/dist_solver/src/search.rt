@@ -65,18 +65,39 @@ impl Solver {
           derived = [];
         }) }
     {
-        let trail = Trail::new(alloc, clauses.variables())?;
-        let cone = VariableSet::new(alloc, clauses.variables())?;
-        let guesses = Guesses::new(alloc, clauses.variables())?;
+        let variables = clauses.variables();
         let entries = Log::covered(alloc, clauses, lines, line_literals)?;
-        Ok(Solver {
-            entries,
-            added: Derived::new(alloc),
-            trail,
-            cone,
-            guesses,
-            alloc,
-        })
+        let trail = match Trail::new(alloc, variables) {
+            Ok(trail) => trail,
+            Err(error) => {
+                drop(entries);
+                return Err(error);
+            }
+        };
+        let cone = match VariableSet::new(alloc, variables) {
+            Ok(cone) => cone,
+            Err(error) => {
+                drop(trail);
+                drop(entries);
+                return Err(error);
+            }
+        };
+        match Guesses::new(alloc, variables) {
+            Ok(guesses) => Ok(Solver {
+                entries,
+                added: Derived::new(alloc),
+                trail,
+                cone,
+                guesses,
+                alloc,
+            }),
+            Err(error) => {
+                drop(cone);
+                drop(trail);
+                drop(entries);
+                Err(error)
+            }
+        }
     }
 
     /// Asks for a model in which the assumptions are true, with leave to add at most `limit` lines to the log. Every

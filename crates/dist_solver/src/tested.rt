@@ -40,8 +40,13 @@ impl Tests {
         ensures { IfOk result (λ tests. tests ≡ variables) }
     {
         let scratch = Scratch::new(alloc, variables)?;
-        let variables = VariableSet::new(alloc, variables)?;
-        Ok(Tests { scratch, variables })
+        match VariableSet::new(alloc, variables) {
+            Ok(variables) => Ok(Tests { scratch, variables }),
+            Err(error) => {
+                drop(scratch);
+                Err(error)
+            }
+        }
     }
 
     /// The assignment in which exactly these variables are true, where it is a model of the input clauses and makes the

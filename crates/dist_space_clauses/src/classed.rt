@@ -7,7 +7,7 @@ ghost use Rattle.dist_space.specs.Space.{variable_of};
 use dist_space::{Meaning, Space};
 
 /// Whose classes they are.
-#[derive(Clone, Copy, Debug, PartialEq, Eq)]
+#[derive(Clone, Copy)]
 pub(crate) enum Classed {
     Cluster,
     Name,

@@ -105,7 +105,10 @@ fn push_found(
     match movers_of(alloc, repo) {
         Ok(movers) => {
             let mut partners = Partners::new(alloc, repo);
-            push_plain(space, &movers, &mut partners, scratch, set)
+            let pushed = push_plain(space, &movers, &mut partners, scratch, set);
+            drop(partners);
+            drop(movers);
+            pushed
         }
         Err(AllocError) => Err(PushError::NoMemory),
     }
@@ -121,6 +124,23 @@ fn push_required(space: &Space, scratch: &mut Scratch, set: &mut ClauseSet) -> R
         return push_names(space, scratch, set);
     }
     Ok(())
+}
+
+/// Adds all clauses, and tells where the groups of mode plain end.
+fn push_all(
+    alloc: Global,
+    space: &Space,
+    scratch: &mut Scratch,
+    set: &mut ClauseSet,
+) -> Result<FutureEnds, PushError>
+    requires front { IsGroupsFront space.now 1 set.old set.old }
+    ensures ok { OnOk result (IsWholeSet space.now set.old set.new) }
+    ensures ends { IfOk result (AreEndsOf space.now set.new.clauses) }
+    ensures err { IfErr result (IsCauseAt space.now set.old) }
+{
+    let ends = push_found(alloc, space, scratch, set)?;
+    push_required(space, scratch, set)?;
+    Ok(ends)
 }
 
 /// The clauses of a space with the ends of their groups, or the limit that they pass first.
@@ -139,11 +159,19 @@ fn made_clauses(
 {
     let mut set = ClauseSet::new(alloc, space.variables(), clauses, literals);
     let mut scratch = Scratch::new(alloc);
-    let ends = push_found(alloc, space, &mut scratch, &mut set)?;
-    push_required(space, &mut scratch, &mut set)?;
-    // What this call tells is that the set is within its limits.
-    let _count = set.len();
-    Ok((set, ends))
+    let pushed = push_all(alloc, space, &mut scratch, &mut set);
+    drop(scratch);
+    match pushed {
+        Ok(ends) => {
+            // What this call tells is that the set is within its limits.
+            let _count = set.len();
+            Ok((set, ends))
+        }
+        Err(error) => {
+            drop(set);
+            Err(error)
+        }
+    }
 }
 
 /// The clauses of a space, as `clauses_of` makes them, and where the groups end that say what a future is.

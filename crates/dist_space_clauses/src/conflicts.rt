@@ -1,6 +1,6 @@
 //! The clauses of packages in conflict. Of two packages as they are today the one that stands first has the clause, so both
 //! its own conflict atoms count and those of the packages behind it.
-ghost use Rattle.std.specs.Prelude.{◌≡◌, ◌≢◌, ◌+◌, ◌≤◌, ◌<◌, All, Any, Contains, IsSomeAnd, IfErr, OnOk, Some, length, slice_get};
+ghost use Rattle.std.specs.Prelude.{◌≡◌, ◌≢◌, ◌+◌, ◌≤◌, ◌<◌, [], All, Any, Contains, IsSomeAnd, IfErr, OnOk, Some, length, slice_get};
 ghost use Rattle.dist_asked.specs.AskedPlaces.{AreEnough};
 ghost use Rattle.dist_repo.specs.Match.{IsUsable};
 ghost use Rattle.dist_repo.specs.PackageList.{IsPackageAnd};
@@ -78,6 +78,27 @@ fn add_new_names(
     add_fresh(space, atom, variables)
 }
 
+/// Adds what a usable conflict atom of a package matches of new versions and new names, with a list for the packages that may match
+/// it by new versions.
+fn add_usable<'a>(
+    space: &'a Space,
+    number: u32,
+    package: &Package,
+    atom: &'a Atom,
+    movers: &Movers<'a>,
+    numbers: &mut Vec<u32>,
+    variables: &mut Vec<u32>,
+) -> Result<(), AllocError>
+    requires atom { Contains «package».now.conflicts atom.now }
+    requires usable { IsUsable space.now.repository.architecture atom.now.qualifier }
+    requires movers { AreMovers space.now.repository movers.now }
+    ensures { OnOk result (Gathers space.now variables.old.items variables.new.items (Excludes space.now number «package».now) (λ m. IsLater m × IsMatched space.now atom.now m × Excludes space.now number «package».now m)) }
+{
+    gather_candidates(space, atom, movers, numbers)?;
+    add_packages(space, number, package, atom, numbers, variables)?;
+    add_new_names(space, package, atom, variables)
+}
+
 /// Adds what a conflict atom of a package matches of new versions and new names.
 fn add_atom<'a>(
     space: &'a Space,
@@ -95,9 +116,17 @@ fn add_atom<'a>(
         return Ok(());
     }
     let mut numbers = Vec::new(*variables.allocator());
-    gather_candidates(space, atom, movers, &mut numbers)?;
-    add_packages(space, number, package, atom, &numbers, variables)?;
-    add_new_names(space, package, atom, variables)
+    let added = add_usable(
+        space,
+        number,
+        package,
+        atom,
+        movers,
+        &mut numbers,
+        variables,
+    );
+    drop(numbers);
+    added
 }
 
 /// Adds what the conflict atoms of a package match of new versions and new names, by the places that are asked.
@@ -134,7 +163,9 @@ fn add_atoms<'a>(
     ensures { OnOk result (Gathers space.now variables.old.items variables.new.items (Excludes space.now number «package».now) (λ m. Any (λ atom. IsLater m × IsMatched space.now atom m × Excludes space.now number «package».now m) «package».now.conflicts)) }
 {
     let asked = AskedPlaces::in_field(*variables.allocator(), &package.conflicts)?;
-    add_asked(space, number, package, &asked, movers, variables)
+    let added = add_asked(space, number, package, &asked, movers, variables);
+    drop(asked);
+    added
 }
 
 /// Adds packages as they are.
@@ -146,6 +177,24 @@ fn add_present(space: &Space, others: &[u32], variables: &mut Vec<u32>) -> Resul
         add_variable(space, Meaning::Present(*other), variables)?;
     }
     Ok(())
+}
+
+/// Adds the packages behind a package that are in conflict with it, with an empty list for their numbers.
+fn add_found(
+    space: &Space,
+    number: u32,
+    partners: &mut Partners,
+    others: &mut Vec<u32>,
+    variables: &mut Vec<u32>,
+) -> Result<(), AllocError>
+    requires number { number < length space.now.repository.packages }
+    requires partners { partners.old ≡ space.now.repository }
+    requires none { others.old.items ≡ [] }
+    ensures partners { partners.new ≡ partners.old }
+    ensures adds { OnOk result (Adds space.now variables.old.items variables.new.items (IsPartnerOf space.now number)) }
+{
+    partners.add_behind(number, others)?;
+    add_present(space, others, variables)
 }
 
 /// Adds the packages behind a package that are in conflict with it.
@@ -161,8 +210,9 @@ fn add_partners(
     ensures adds { OnOk result (Adds space.now variables.old.items variables.new.items (IsPartnerOf space.now number)) }
 {
     let mut others = Vec::new(*variables.allocator());
-    partners.add_behind(number, &mut others)?;
-    add_present(space, &others, variables)
+    let added = add_found(space, number, partners, &mut others, variables);
+    drop(others);
+    added
 }
 
 /// Gathers what stands behind a package and is in conflict with it.

@@ -15,7 +15,7 @@ use dist_now::Partners;
 use dist_space::Space;
 
 /// What the clauses of a group say.
-#[derive(Clone, Copy, Debug, PartialEq, Eq)]
+#[derive(Clone, Copy)]
 pub(crate) enum Group {
     /// That a cluster has one class at most.
     Classes,

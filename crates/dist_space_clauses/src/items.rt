@@ -83,6 +83,24 @@ fn add_packages(
     Ok(())
 }
 
+/// Adds what a usable atom matches, with a list for the packages that may match it by new versions.
+fn add_usable<'a>(
+    space: &'a Space,
+    atom: &'a Atom,
+    movers: &Movers<'a>,
+    numbers: &mut Vec<u32>,
+    variables: &mut Vec<u32>,
+) -> Result<(), AllocError>
+    requires usable { IsUsable space.now.repository.architecture atom.now.qualifier }
+    requires movers { AreMovers space.now.repository movers.now }
+    ensures { OnOk result (Adds space.now variables.old.items variables.new.items (IsMatched space.now atom.now)) }
+{
+    gather_candidates(space, atom, movers, numbers)?;
+    add_present(space, atom, variables)?;
+    add_packages(space, atom, numbers, variables)?;
+    add_fresh(space, atom, variables)
+}
+
 /// Adds what an atom matches.
 fn add_matched<'a>(
     space: &'a Space,
@@ -97,10 +115,9 @@ fn add_matched<'a>(
         return Ok(());
     }
     let mut numbers = Vec::new(*variables.allocator());
-    gather_candidates(space, atom, movers, &mut numbers)?;
-    add_present(space, atom, variables)?;
-    add_packages(space, atom, &numbers, variables)?;
-    add_fresh(space, atom, variables)
+    let added = add_usable(space, atom, movers, &mut numbers, variables);
+    drop(numbers);
+    added
 }
 
 /// Adds what an item is met by, by the places that are asked.
@@ -136,7 +153,9 @@ fn gather_meeting<'a>(
 {
     variables.clear();
     let asked = AskedPlaces::in_item(*variables.allocator(), alternatives)?;
-    add_asked(space, alternatives, &asked, movers, variables)?;
+    let added = add_asked(space, alternatives, &asked, movers, variables);
+    drop(asked);
+    added?;
     put_in_order(variables);
     Ok(())
 }

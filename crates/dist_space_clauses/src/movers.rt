@@ -142,6 +142,17 @@ impl<'a> Movers<'a> {
         self.note(&package.name, number)?;
         self.note_entries(package, number)
     }
+
+    /// Notes all packages of a repository, where none is noted.
+    fn note_packages(&mut self, repo: &'a Repository) -> Result<(), AllocError>
+        requires { self.old ≡ [] }
+        ensures { OnOk result (AreMovers repo.now self.new) }
+    {
+        for number in 0..repo.len() {
+            self.note_package(repo.package(number), number)?;
+        }
+        Ok(())
+    }
 }
 
 /// Whether an entry has the version of its package, and so goes with it.
@@ -159,8 +170,11 @@ pub(crate) fn movers_of<'a>(alloc: Global, repo: &'a Repository) -> Result<Mover
     ensures { IfOk result (AreMovers repo.now) }
 {
     let mut movers = Movers::new(alloc);
-    for number in 0..repo.len() {
-        movers.note_package(repo.package(number), number)?;
+    match movers.note_packages(repo) {
+        Ok(()) => Ok(movers),
+        Err(error) => {
+            drop(movers);
+            Err(error)
+        }
     }
-    Ok(movers)
 }

@@ -12,7 +12,7 @@ use std::alloc::{AllocError, Global};
 use std::marker::Model;
 
 /// The candidates of a group, one bit for each package: each installation strikes some by whole words, and each question one.
-#[derive(Debug, Drop)]
+#[derive(Drop)]
 pub(crate) struct Candidates {
     alloc: Global,
     row: Assignment,

@@ -8,7 +8,7 @@ use dist_sweep::{Asker, Claimant, Window};
 use std::alloc::Global;
 
 /// Makes the claims on strong dependencies. Between them it keeps nothing.
-#[derive(Debug, Drop)]
+#[derive(Drop)]
 pub(crate) struct StrongClaimant {
     pub(crate) alloc: Global,
 }

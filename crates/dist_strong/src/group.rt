@@ -9,7 +9,7 @@ use std::alloc::{AllocError, Global};
 use std::marker::Model;
 
 /// The package of the claim, what all installations of its group have, and the packages without which it was asked for.
-#[derive(Debug, Drop)]
+#[derive(Drop)]
 pub(crate) struct Group {
     pub(crate) claimed: u32,
     pub(crate) variables: u32,

@@ -5,42 +5,38 @@ ghost use Rattle.dist_clause.specs.Formula.{IsClauseOver};
 use dist_clause::Lit;
 use std::alloc::Global;
 
-/// The clause of some literals over so many variables; nothing, if they are none.
-pub(crate) fn clause_of(alloc: Global, variables: u32, literals: &[Lit]) -> Option<Vec<Lit>>
-    requires { variables ≤ 1000 }
-    ensures { IfSome result (λ c. IsClauseOver variables c.items) }
+/// Puts literals behind the others, as they are or each negated; answers whether all are of variables in range, each once.
+fn add_all(clause: &mut Vec<Lit>, variables: u32, literals: &[Lit], negated: bool) -> bool
+    requires few { variables ≤ 1000 }
+    requires clause { IsClauseOver variables clause.old.items }
+    ensures { IsClauseOver variables clause.new.items }
 {
-    let mut clause = Vec::new(alloc);
     for literal in literals {
-        if !add(
-            &mut clause,
-            variables,
-            literal.variable(),
-            literal.positive(),
-        ) {
-            return None;
+        let positive = literal.positive() != negated;
+        if !add(clause, variables, literal.variable(), positive) {
+            return false;
         }
     }
-    Some(clause)
+    true
 }
 
-/// The clause of the negated literals.
-pub(crate) fn negated(alloc: Global, variables: u32, literals: &[Lit]) -> Option<Vec<Lit>>
+/// The clause of some literals over so many variables, as they are or each negated; nothing, if they are none.
+pub(crate) fn clause_of(
+    alloc: Global,
+    variables: u32,
+    literals: &[Lit],
+    negated: bool,
+) -> Option<Vec<Lit>>
     requires { variables ≤ 1000 }
     ensures { IfSome result (λ c. IsClauseOver variables c.items) }
 {
     let mut clause = Vec::new(alloc);
-    for literal in literals {
-        if !add(
-            &mut clause,
-            variables,
-            literal.variable(),
-            !literal.positive(),
-        ) {
-            return None;
-        }
+    if add_all(&mut clause, variables, literals, negated) {
+        Some(clause)
+    } else {
+        drop(clause);
+        None
     }
-    Some(clause)
 }
 
 /// Puts a literal of a variable that is not there yet behind the others, and says whether it did.

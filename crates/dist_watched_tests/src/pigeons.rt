@@ -1,5 +1,6 @@
 //! Pigeons in holes: one pigeon more than there are holes cannot each have a hole of its own.
 ghost use Rattle.std.specs.Prelude.{◌≡◌, ◌≤◌, IfSome};
+ghost use Rattle.dist_clause.specs.Formula.{IsClauseOver};
 
 use crate::literals::add;
 use crate::tested::{End, ask};
@@ -16,59 +17,75 @@ fn place(holes: u32, pigeon: u32, hole: u32) -> u32 {
         .saturating_add(1)
 }
 
+/// Puts the places of a pigeon behind the others, one for each hole.
+fn add_places(clause: &mut Vec<Lit>, variables: u32, holes: u32, pigeon: u32) -> bool
+    requires few { variables ≤ 1000 }
+    requires clause { IsClauseOver variables clause.old.items }
+    ensures { IsClauseOver variables clause.new.items }
+{
+    for hole in 0..holes {
+        if !add(clause, variables, place(holes, pigeon, hole), true) {
+            return false;
+        }
+    }
+    true
+}
+
 /// Adds that a pigeon is in a hole.
-fn has_a_hole(alloc: Global, set: &mut ClauseSet, holes: u32, pigeon: u32) -> Option<()>
+fn has_a_hole(alloc: Global, set: &mut ClauseSet, holes: u32, pigeon: u32) -> bool
     requires { set.old.variables ≤ 1000 }
     ensures { set.new.variables ≡ set.old.variables }
 {
     let mut clause: Vec<Lit> = Vec::new(alloc);
-    for hole in 0..holes {
-        if !add(
-            &mut clause,
-            set.variables(),
-            place(holes, pigeon, hole),
-            true,
-        ) {
-            return None;
-        }
-    }
-    set.push(&clause).ok()
+    let added = add_places(&mut clause, set.variables(), holes, pigeon)
+        && set.push(&clause).is_ok();
+    drop(clause);
+    added
 }
 
-/// Adds that two pigeons are not both in a hole.
-fn are_apart(
-    alloc: Global,
-    set: &mut ClauseSet,
-    holes: u32,
-    one: u32,
-    other: u32,
-    hole: u32,
-) -> Option<()>
+/// Adds that two places are not both taken.
+fn are_apart(alloc: Global, set: &mut ClauseSet, one: u32, other: u32) -> bool
     requires { set.old.variables ≤ 1000 }
     ensures { set.new.variables ≡ set.old.variables }
 {
     let mut clause: Vec<Lit> = Vec::new(alloc);
     let variables = set.variables();
-    if !add(&mut clause, variables, place(holes, one, hole), false)
-        || !add(&mut clause, variables, place(holes, other, hole), false)
-    {
-        return None;
-    }
-    set.push(&clause).ok()
+    let added = add(&mut clause, variables, one, false)
+        && add(&mut clause, variables, other, false)
+        && set.push(&clause).is_ok();
+    drop(clause);
+    added
 }
 
 /// Adds that a pigeon has no hole together with one of those before it.
-fn is_apart(alloc: Global, set: &mut ClauseSet, holes: u32, pigeon: u32) -> Option<()>
+fn is_apart(alloc: Global, set: &mut ClauseSet, holes: u32, pigeon: u32) -> bool
     requires { set.old.variables ≤ 1000 }
     ensures { set.new.variables ≡ set.old.variables }
 {
     for pair in 0..pigeon.saturating_mul(holes) {
         if holes == 0 {
-            return None;
+            return false;
         }
-        are_apart(alloc, set, holes, pair / holes, pigeon, pair % holes)?;
+        let hole = pair % holes;
+        let one = place(holes, pair / holes, hole);
+        if !are_apart(alloc, set, one, place(holes, pigeon, hole)) {
+            return false;
+        }
     }
-    Some(())
+    true
+}
+
+/// Adds the clauses of so many pigeons and holes.
+fn add_crowd(alloc: Global, set: &mut ClauseSet, pigeons: u32, holes: u32) -> bool
+    requires { set.old.variables ≤ 1000 }
+    ensures { set.new.variables ≡ set.old.variables }
+{
+    for pigeon in 0..pigeons {
+        if !has_a_hole(alloc, set, holes, pigeon) || !is_apart(alloc, set, holes, pigeon) {
+            return false;
+        }
+    }
+    true
 }
 
 /// The clauses over so many variables of so many pigeons, with one hole less.
@@ -76,33 +93,73 @@ fn crowd(alloc: Global, variables: u32, pigeons: u32) -> Option<ClauseSet>
     requires { variables ≤ 1000 }
     ensures { IfSome result (λ s. s.variables ≡ variables) }
 {
-    let holes = pigeons.checked_sub(1)?;
     let mut set = ClauseSet::new(alloc, variables, 10000, 100000);
-    for pigeon in 0..pigeons {
-        has_a_hole(alloc, &mut set, holes, pigeon)?;
-        is_apart(alloc, &mut set, holes, pigeon)?;
+    if add_crowd(alloc, &mut set, pigeons, pigeons.saturating_sub(1)) {
+        Some(set)
+    } else {
+        drop(set);
+        None
     }
-    Some(set)
 }
 
-/// What the question comes to whether so many pigeons have each a hole of its own.
-fn crowd_ends(alloc: Global, pigeons: u32) -> Option<End> {
-    let clauses = crowd(alloc, 100, pigeons)?;
-    let mut log = Log::covered(alloc, crowd(alloc, 100, pigeons)?, 10000, 1000000).ok()?;
+/// What the question comes to whether the pigeons of a log have each a hole of its own.
+fn log_ends(alloc: Global, clauses: &ClauseSet, log: &mut Log) -> End
+    requires clauses { clauses.now.variables ≡ 100 }
+    requires log { log.old.variables ≡ 100 }
+{
     let mut watched = Watched::new(alloc, 100);
-    let end = ask(alloc, &clauses, &mut log, &mut watched, &[], 10000);
-    drop(log);
+    let end = ask(alloc, clauses, log, &mut watched, &[], 10000);
     drop(watched);
     end
 }
 
+/// A log of so many pigeons.
+fn log_of_crowd(alloc: Global, pigeons: u32) -> Option<Log>
+    ensures { IfSome result (λ log. log.variables ≡ 100) }
+{
+    match crowd(alloc, 100, pigeons) {
+        Some(clauses) => Log::covered(alloc, clauses, 10000, 1000000).ok(),
+        None => None,
+    }
+}
+
+/// What the question comes to of so many pigeons, whose clauses are given.
+fn clauses_end(alloc: Global, clauses: &ClauseSet, pigeons: u32) -> End
+    requires { clauses.now.variables ≡ 100 }
+{
+    match log_of_crowd(alloc, pigeons) {
+        Some(mut log) => {
+            let end = log_ends(alloc, clauses, &mut log);
+            drop(log);
+            end
+        }
+        None => End::Wrong,
+    }
+}
+
+/// What the question comes to whether so many pigeons have each a hole of its own.
+fn crowd_ends(alloc: Global, pigeons: u32) -> End {
+    match crowd(alloc, 100, pigeons) {
+        Some(clauses) => {
+            let end = clauses_end(alloc, &clauses, pigeons);
+            drop(clauses);
+            end
+        }
+        None => End::Wrong,
+    }
+}
+
+/// How many pigeons of one to six are not refuted.
+fn wrong_crowd(alloc: Global) -> Option<u32> {
+    for pigeons in 1..7u32 {
+        if crowd_ends(alloc, pigeons) != End::Refuted {
+            return Some(pigeons);
+        }
+    }
+    None
+}
+
 #[test]
 fn pigeons_have_no_hole_each(rt: HostRuntime) {
-    for pigeons in 1..7u32 {
-        assert_eq!(rt;
-            crowd_ends(rt.alloc(), pigeons),
-            Some(End::Refuted),
-            "{pigeons}"
-        );
-    }
+    assert_eq!(rt; wrong_crowd(rt.alloc()), None);
 }

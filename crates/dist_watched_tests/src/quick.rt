@@ -3,14 +3,13 @@ ghost use Rattle.std.specs.Prelude.{◌≡◌, ◌≤◌, length, IfSome};
 ghost use Rattle.dist_clause.specs.Formula.{IsClauseOver};
 
 use crate::literals::add;
-use crate::small_sets::{Draws, agrees, draw_set, is_possible, log_of};
-use crate::tested::{End, found, refuted};
+use crate::small_sets::{Draws, agrees, draw_set, drawn_log, is_possible, log_of};
+use crate::tested::{End, found, shown};
 use dist_clause::{ClauseSet, Lit};
-use dist_derive::{Log, Scratch};
+use dist_derive::Log;
 use dist_quick::{Guess, Quick};
 use dist_watched::Watched;
 use std::alloc::Global;
-use std::process::Abort;
 
 /// What the quick phase guesses, once tested; no guess is undecided.
 fn guess(
@@ -19,20 +18,16 @@ fn guess(
     log: &Log,
     quick: &mut Quick,
     assumptions: &[Lit],
-) -> Option<End>
+) -> End
     requires few { log.now.variables ≤ 1000 }
     requires clauses { clauses.now.variables ≡ log.now.variables }
     requires assumptions { IsClauseOver log.now.variables assumptions.now }
 {
-    match quick.ask(log, assumptions).ok()? {
-        Guess::Model => found(alloc, clauses, assumptions, quick.trues()),
-        Guess::Refutation => {
-            let mut scratch = Scratch::new(alloc, log.variables()).ok()?;
-            let end = refuted(alloc, log, &mut scratch, assumptions, quick.hints());
-            drop(scratch);
-            end
-        }
-        Guess::Nothing => Some(End::Undecided),
+    match quick.ask(log, assumptions) {
+        Ok(Guess::Model) => found(alloc, clauses, assumptions, quick.trues()),
+        Ok(Guess::Refutation) => shown(alloc, log, assumptions, quick.hints()),
+        Ok(Guess::Nothing) => End::Undecided,
+        Err(_) => End::Wrong,
     }
 }
 
@@ -43,17 +38,40 @@ fn is_right(
     log: &Log,
     quick: &mut Quick,
     assumptions: &[Lit],
-) -> Option<bool>
+) -> bool
     requires clauses { clauses.now.variables ≡ 5 }
     requires log { log.now.variables ≡ 5 }
     requires assumptions { IsClauseOver 5 assumptions.now }
 {
-    let end = guess(alloc, clauses, log, quick, assumptions)?;
-    Some(match end {
+    match guess(alloc, clauses, log, quick, assumptions) {
         End::Found => true,
-        End::Refuted | End::Undecided => !is_possible(alloc, clauses, assumptions)?,
+        End::Refuted | End::Undecided => is_possible(alloc, clauses, assumptions) == Some(false),
         End::Wrong => false,
-    })
+    }
+}
+
+/// Whether guesses are right under more and more assumptions behind those that are given.
+fn are_right_behind(
+    alloc: Global,
+    draws: &mut Draws,
+    clauses: &ClauseSet,
+    log: &Log,
+    quick: &mut Quick,
+    assumptions: &mut Vec<Lit>,
+) -> bool
+    requires clauses { clauses.now.variables ≡ 5 }
+    requires log { log.now.variables ≡ 5 }
+    requires assumptions { IsClauseOver 5 assumptions.old.items }
+{
+    'assumptions: for _ in 0..4 {
+        let variable = draws.draw(5).saturating_add(1);
+        if add(assumptions, 5, variable, draws.draw(2) == 0)
+            && !is_right(alloc, clauses, log, quick, assumptions)
+        {
+            return false;
+        }
+    }
+    true
 }
 
 /// Whether guesses are right under one assumption, and under more and more behind it.
@@ -63,20 +81,14 @@ fn are_right(
     clauses: &ClauseSet,
     log: &Log,
     quick: &mut Quick,
-) -> Option<bool>
+) -> bool
     requires clauses { clauses.now.variables ≡ 5 }
     requires log { log.now.variables ≡ 5 }
 {
     let mut assumptions = Vec::new(alloc);
-    'assumptions: for _ in 0..4 {
-        let variable = draws.draw(5).saturating_add(1);
-        if add(&mut assumptions, 5, variable, draws.draw(2) == 0)
-            && !is_right(alloc, clauses, log, quick, &assumptions)?
-        {
-            return Some(false);
-        }
-    }
-    Some(true)
+    let right = are_right_behind(alloc, draws, clauses, log, quick, &mut assumptions);
+    drop(assumptions);
+    right
 }
 
 /// Clauses, assumptions, and what the quick phase is to find.
@@ -89,7 +101,7 @@ const CHOICE: &[&[i32]] = &[&[-1, 2, 3], &[-2, 4], &[-3, 4]];
 const EITHER: &[&[i32]] = &[&[1, 2], &[-1, 3], &[-2, 3]];
 
 /// What follows from assumptions alone, and what each of two alternatives leads to.
-const ASKED: [Asked; 10] = [
+const ASKED: &[Asked] = &[
     (&[&[-1, 2], &[-1, -2]], &[1], End::Refuted),
     (&[&[-1, 2], &[-1, -2]], &[2], End::Found),
     (CHAIN, &[1], End::Found),
@@ -102,17 +114,58 @@ const ASKED: [Asked; 10] = [
     (&[&[1], &[-1]], &[], End::Refuted),
 ];
 
-/// The clause of some numbers over five variables, a negative one for a negated variable.
+/// Puts the literals of some numbers behind the others, a negative one for a negated variable.
+fn add_numbers(clause: &mut Vec<Lit>, numbers: &[i32]) -> bool
+    requires { IsClauseOver 5 clause.old.items }
+    ensures { IsClauseOver 5 clause.new.items }
+{
+    for number in numbers {
+        if !add(clause, 5, number.unsigned_abs(), *number > 0) {
+            return false;
+        }
+    }
+    true
+}
+
+/// The clause of some numbers over five variables.
 fn numbered(alloc: Global, numbers: &[i32]) -> Option<Vec<Lit>>
     ensures { IfSome result (λ c. IsClauseOver 5 c.items) }
 {
     let mut clause = Vec::new(alloc);
-    for number in numbers {
-        if !add(&mut clause, 5, number.unsigned_abs(), *number > 0) {
-            return None;
+    if add_numbers(&mut clause, numbers) {
+        Some(clause)
+    } else {
+        drop(clause);
+        None
+    }
+}
+
+/// Adds the clause of some numbers.
+fn push_numbers(alloc: Global, set: &mut ClauseSet, numbers: &[i32]) -> bool
+    requires { set.old.variables ≡ 5 }
+    ensures { set.new.variables ≡ 5 }
+{
+    match numbered(alloc, numbers) {
+        Some(clause) => {
+            let pushed = set.push(&clause).is_ok();
+            drop(clause);
+            pushed
+        }
+        None => false,
+    }
+}
+
+/// Adds the clauses of some numbers.
+fn push_all_numbers(alloc: Global, set: &mut ClauseSet, clauses: &[&[i32]]) -> bool
+    requires { set.old.variables ≡ 5 }
+    ensures { set.new.variables ≡ 5 }
+{
+    for numbers in clauses {
+        if !push_numbers(alloc, set, numbers) {
+            return false;
         }
     }
-    Some(clause)
+    true
 }
 
 /// The clauses of some numbers.
@@ -120,47 +173,117 @@ fn numbered_set(alloc: Global, clauses: &[&[i32]]) -> Option<ClauseSet>
     ensures { IfSome result (λ s. s.variables ≡ 5) }
 {
     let mut set = ClauseSet::new(alloc, 5, 10, 100);
-    for numbers in clauses {
-        set.push(&numbered(alloc, numbers)?).ok()?;
+    if push_all_numbers(alloc, &mut set, clauses) {
+        Some(set)
+    } else {
+        drop(set);
+        None
     }
-    Some(set)
+}
+
+/// A log of the clauses of some numbers.
+fn numbered_log(alloc: Global, clauses: &[&[i32]]) -> Option<Log>
+    ensures { IfSome result (λ log. log.variables ≡ 5) }
+{
+    match numbered_set(alloc, clauses) {
+        Some(set) => log_of(alloc, set, true),
+        None => None,
+    }
 }
 
 /// What the quick phase finds, asked once.
-fn seen_in(alloc: Global, clauses: &ClauseSet, log: &Log, assumptions: &[Lit]) -> Option<End>
+fn seen_in(alloc: Global, clauses: &ClauseSet, log: &Log, assumptions: &[Lit]) -> End
     requires clauses { clauses.now.variables ≡ 5 }
     requires log { log.now.variables ≡ 5 }
     requires assumptions { IsClauseOver 5 assumptions.now }
 {
-    let mut quick = Quick::new(alloc, 5).ok()?;
-    let end = guess(alloc, clauses, log, &mut quick, assumptions);
-    drop(quick);
-    end
+    match Quick::new(alloc, 5) {
+        Ok(mut quick) => {
+            let end = guess(alloc, clauses, log, &mut quick, assumptions);
+            drop(quick);
+            end
+        }
+        Err(_) => End::Wrong,
+    }
+}
+
+/// The same under the assumptions of some numbers.
+fn seen_under(alloc: Global, clauses: &ClauseSet, log: &Log, numbers: &[i32]) -> End
+    requires clauses { clauses.now.variables ≡ 5 }
+    requires log { log.now.variables ≡ 5 }
+{
+    match numbered(alloc, numbers) {
+        Some(assumptions) => {
+            let end = seen_in(alloc, clauses, log, &assumptions);
+            drop(assumptions);
+            end
+        }
+        None => End::Wrong,
+    }
+}
+
+/// What the quick phase finds of a row, whose clauses are given.
+fn seen_over(alloc: Global, clauses: &ClauseSet, row: &Asked) -> End
+    requires { clauses.now.variables ≡ 5 }
+{
+    match numbered_log(alloc, row.0) {
+        Some(log) => {
+            let end = seen_under(alloc, clauses, &log, row.1);
+            drop(log);
+            end
+        }
+        None => End::Wrong,
+    }
 }
 
 /// What the quick phase finds of a row.
-fn seen_of(alloc: Global, row: &Asked) -> Option<End> {
-    let clauses = numbered_set(alloc, row.0)?;
-    let same = numbered_set(alloc, row.0)?;
-    let assumptions = numbered(alloc, row.1)?;
-    let log = log_of(alloc, same, true)?;
-    let end = seen_in(alloc, &clauses, &log, &assumptions);
-    drop(log);
-    end
+fn seen_of(alloc: Global, row: &Asked) -> End {
+    match numbered_set(alloc, row.0) {
+        Some(clauses) => {
+            let end = seen_over(alloc, &clauses, row);
+            drop(clauses);
+            end
+        }
+        None => End::Wrong,
+    }
 }
 
-fn hold_asked(rt: &(impl Abort + AllocGlobal), rows: &[Asked]) {
-    for (number, row) in rows.iter().enumerate() {
-        assert_eq!(rt; seen_of(rt.alloc(), row), Some(row.2), "row {number}");
+/// The place of the first row of which something else is found.
+fn wrong_row(alloc: Global, rows: &[Asked]) -> Option<usize> {
+    for place in 0..rows.len() {
+        if seen_of(alloc, &rows[place]) != rows[place].2 {
+            return Some(place);
+        }
     }
+    None
 }
 
 #[test]
 fn guesses_at_rows_are_right(rt: HostRuntime) {
-    hold_asked(&rt, &ASKED);
+    assert_eq!(rt; wrong_row(rt.alloc(), ASKED), None);
 }
 
-/// Whether guesses are right, between which the search by watched literals adds its lessons.
+/// Whether guesses are right, and then a question to the search by watched literals, which adds its lessons.
+fn round_is_right(
+    alloc: Global,
+    draws: &mut Draws,
+    clauses: &ClauseSet,
+    log: &mut Log,
+    quick: &mut Quick,
+    watched: &mut Watched,
+) -> bool
+    requires clauses { clauses.now.variables ≡ 5 }
+    requires log { log.old.variables ≡ 5 }
+    ensures { log.new.variables ≡ 5 }
+{
+    are_right(alloc, draws, clauses, log, quick)
+        && is_right(alloc, clauses, log, quick, &[])
+        && are_right(alloc, draws, clauses, log, quick)
+        && are_right(alloc, draws, clauses, log, quick)
+        && agrees(alloc, draws, clauses, log, watched)
+}
+
+/// The same six times.
 fn rounds_are_right(
     alloc: Global,
     draws: &mut Draws,
@@ -168,55 +291,89 @@ fn rounds_are_right(
     log: &mut Log,
     quick: &mut Quick,
     watched: &mut Watched,
-) -> Option<bool>
+) -> bool
     requires clauses { clauses.now.variables ≡ 5 }
     requires log { log.old.variables ≡ 5 }
 {
     'rounds: for _ in 0..6 {
-        if !are_right(alloc, draws, clauses, log, quick)?
-            || !is_right(alloc, clauses, log, quick, &[])?
-            || !are_right(alloc, draws, clauses, log, quick)?
-            || !are_right(alloc, draws, clauses, log, quick)?
-            || !agrees(alloc, draws, clauses, log, watched)?
-        {
-            return Some(false);
+        if !round_is_right(alloc, draws, clauses, log, quick, watched) {
+            return false;
         }
     }
-    Some(true)
+    true
 }
 
-/// The same by numbers that a seed draws.
-fn are_right_by(alloc: Global, seed: u64, clauses: &ClauseSet, log: &mut Log) -> Option<bool>
+/// The same with a new search, by numbers that a seed draws.
+fn quick_is_right(
+    alloc: Global,
+    seed: u64,
+    clauses: &ClauseSet,
+    log: &mut Log,
+    quick: &mut Quick,
+) -> bool
     requires clauses { clauses.now.variables ≡ 5 }
     requires log { log.old.variables ≡ 5 }
 {
-    let mut quick = Quick::new(alloc, 5).ok()?;
     let mut watched = Watched::new(alloc, 5);
     let mut draws = Draws::new(seed);
-    let right = rounds_are_right(alloc, &mut draws, clauses, log, &mut quick, &mut watched);
-    drop(quick);
+    let right = rounds_are_right(alloc, &mut draws, clauses, log, quick, &mut watched);
     drop(watched);
     right
 }
 
-/// The same over the clauses of a seed.
-fn stays_right(alloc: Global, seed: u64) -> Option<bool> {
-    let number = Draws::new(seed).draw(21);
-    let clauses = draw_set(alloc, &mut Draws::new(seed), 5, number)?;
-    let same = draw_set(alloc, &mut Draws::new(seed), 5, number)?;
-    let mut log = log_of(alloc, same, true)?;
-    let right = are_right_by(alloc, seed.wrapping_add(1000), &clauses, &mut log);
-    drop(log);
-    right
+/// The same with a new quick phase.
+fn log_is_right(alloc: Global, seed: u64, clauses: &ClauseSet, log: &mut Log) -> bool
+    requires clauses { clauses.now.variables ≡ 5 }
+    requires log { log.old.variables ≡ 5 }
+{
+    match Quick::new(alloc, 5) {
+        Ok(mut quick) => {
+            let right = quick_is_right(alloc, seed, clauses, log, &mut quick);
+            drop(quick);
+            right
+        }
+        Err(_) => false,
+    }
 }
 
-fn hold_small(rt: &(impl Abort + AllocGlobal), seeds: u64) {
-    for seed in 0..seeds {
-        assert_eq!(rt; stays_right(rt.alloc(), seed), Some(true), "seed {seed}");
+/// The same over so many clauses of a seed, which are given.
+fn clauses_are_right(alloc: Global, seed: u64, number: u32, clauses: &ClauseSet) -> bool
+    requires { clauses.now.variables ≡ 5 }
+{
+    match drawn_log(alloc, seed, number, true) {
+        Some(mut log) => {
+            let right = log_is_right(alloc, seed.wrapping_add(1000), clauses, &mut log);
+            drop(log);
+            right
+        }
+        None => false,
     }
+}
+
+/// The same over the clauses of a seed.
+fn stays_right(alloc: Global, seed: u64) -> bool {
+    let number = Draws::new(seed).draw(21);
+    match draw_set(alloc, seed, number) {
+        Some(clauses) => {
+            let right = clauses_are_right(alloc, seed, number, &clauses);
+            drop(clauses);
+            right
+        }
+        None => false,
+    }
+}
+
+/// The first seed at whose clauses a guess is wrong.
+fn wrong_seed(alloc: Global, seeds: u64) -> Option<u64> {
+    for seed in 0..seeds {
+        if !stays_right(alloc, seed) {
+            return Some(seed);
+        }
+    }
+    None
 }
 
 #[test]
 fn guesses_at_small_sets_are_right(rt: HostRuntime) {
-    hold_small(&rt, 300);
+    assert_eq!(rt; wrong_seed(rt.alloc(), 300), None);
 }

@@ -3,12 +3,11 @@ ghost use Rattle.std.specs.Prelude.{◌≡◌, ◌≤◌, length, IfSome};
 ghost use Rattle.dist_clause.specs.Formula.{IsClauseOver};
 
 use crate::literals::add;
-use crate::tested::{End, are_true, ask};
+use crate::tested::{are_true, ask, expected};
 use dist_clause::{Assignment, ClauseSet, Lit};
 use dist_derive::Log;
 use dist_watched::Watched;
 use std::alloc::Global;
-use std::process::Abort;
 
 /// Numbers that are drawn one after another, the same ones for each seed.
 #[derive(Drop)]
@@ -37,82 +36,128 @@ impl Draws {
 }
 
 /// A clause of at most so many literals.
-pub(crate) fn draw_clause(
-    alloc: Global,
-    draws: &mut Draws,
-    variables: u32,
-    width: u32,
-) -> Option<Vec<Lit>>
+pub(crate) fn draw_clause(alloc: Global, draws: &mut Draws, variables: u32, width: u32) -> Vec<Lit>
     requires { variables ≤ 1000 }
-    ensures { IfSome result (λ c. IsClauseOver variables c.items) }
+    ensures { IsClauseOver variables result.items }
 {
     let mut clause = Vec::new(alloc);
     'literals: for _ in 0..width {
         let variable = draws.draw(variables).saturating_add(1);
         let _ = add(&mut clause, variables, variable, draws.draw(2) == 0);
     }
-    Some(clause)
+    clause
 }
 
-/// So many clauses over so many variables.
-pub(crate) fn draw_set(
-    alloc: Global,
-    draws: &mut Draws,
-    variables: u32,
-    clauses: u32,
-) -> Option<ClauseSet>
-    requires { variables ≤ 1000 }
-    ensures { IfSome result (λ s. s.variables ≡ variables) }
+/// Adds a clause of at most three literals.
+fn push_drawn(alloc: Global, draws: &mut Draws, set: &mut ClauseSet) -> bool
+    requires { set.old.variables ≤ 1000 }
+    ensures { set.new.variables ≡ set.old.variables }
 {
-    let mut set = ClauseSet::new(alloc, variables, 10000, 100000);
+    let width = draws.draw(3).saturating_add(1);
+    let clause = draw_clause(alloc, draws, set.variables(), width);
+    let pushed = set.push(&clause).is_ok();
+    drop(clause);
+    pushed
+}
+
+/// Adds so many clauses.
+fn push_all_drawn(alloc: Global, draws: &mut Draws, set: &mut ClauseSet, clauses: u32) -> bool
+    requires { set.old.variables ≤ 1000 }
+    ensures { set.new.variables ≡ set.old.variables }
+{
     'clauses: for _ in 0..clauses {
-        let width = draws.draw(3).saturating_add(1);
-        let clause = draw_clause(alloc, draws, variables, width)?;
-        set.push(&clause).ok()?;
+        if !push_drawn(alloc, draws, set) {
+            return false;
+        }
     }
-    Some(set)
+    true
+}
+
+/// So many clauses over five variables, as a seed draws them.
+pub(crate) fn draw_set(alloc: Global, seed: u64, clauses: u32) -> Option<ClauseSet>
+    ensures { IfSome result (λ s. s.variables ≡ 5) }
+{
+    let mut draws = Draws::new(seed);
+    let mut set = ClauseSet::new(alloc, 5, 10000, 100000);
+    if push_all_drawn(alloc, &mut draws, &mut set, clauses) {
+        Some(set)
+    } else {
+        drop(set);
+        None
+    }
 }
 
 /// Whether one of the assignments of five variables is a model in which the literals are true.
-pub(crate) fn is_possible(alloc: Global, clauses: &ClauseSet, literals: &[Lit]) -> Option<bool>
+fn finds_model(values: &mut Assignment, clauses: &ClauseSet, literals: &[Lit]) -> bool
+    requires values { length values.old ≡ 5 }
     requires clauses { clauses.now.variables ≡ 5 }
     requires literals { IsClauseOver 5 literals.now }
 {
-    let mut values = Assignment::new(alloc, 5).ok()?;
     for bits in 0..32u32 {
         values.set(1, bits & 1 != 0);
         values.set(2, bits & 2 != 0);
         values.set(3, bits & 4 != 0);
         values.set(4, bits & 8 != 0);
         values.set(5, bits & 16 != 0);
-        if values.holds(clauses) && are_true(&values, literals) {
-            return Some(true);
+        if values.holds(clauses) && are_true(values, literals) {
+            return true;
         }
     }
-    Some(false)
+    false
+}
+
+/// The same, where there is memory for an assignment.
+pub(crate) fn is_possible(alloc: Global, clauses: &ClauseSet, literals: &[Lit]) -> Option<bool>
+    requires clauses { clauses.now.variables ≡ 5 }
+    requires literals { IsClauseOver 5 literals.now }
+{
+    match Assignment::new(alloc, 5) {
+        Ok(mut values) => {
+            let possible = finds_model(&mut values, clauses, literals);
+            drop(values);
+            Some(possible)
+        }
+        Err(_) => None,
+    }
 }
 
 /// Whether a question is answered as by trying all assignments.
+fn agrees_under(
+    alloc: Global,
+    clauses: &ClauseSet,
+    log: &mut Log,
+    watched: &mut Watched,
+    assumptions: &[Lit],
+) -> bool
+    requires clauses { clauses.now.variables ≡ 5 }
+    requires log { log.old.variables ≡ 5 }
+    requires assumptions { IsClauseOver 5 assumptions.now }
+    ensures { log.new.variables ≡ 5 }
+{
+    let end = ask(alloc, clauses, log, watched, assumptions, 100);
+    match is_possible(alloc, clauses, assumptions) {
+        Some(possible) => end == expected(possible),
+        None => false,
+    }
+}
+
+/// The same of assumptions that are drawn.
 pub(crate) fn agrees(
     alloc: Global,
     draws: &mut Draws,
     clauses: &ClauseSet,
     log: &mut Log,
     watched: &mut Watched,
-) -> Option<bool>
+) -> bool
     requires clauses { clauses.now.variables ≡ 5 }
     requires log { log.old.variables ≡ 5 }
     ensures { log.new.variables ≡ 5 }
 {
     let width = draws.draw(4);
-    let assumptions = draw_clause(alloc, draws, 5, width)?;
-    let end = ask(alloc, clauses, log, watched, &assumptions, 100)?;
-    let expected = if is_possible(alloc, clauses, &assumptions)? {
-        End::Found
-    } else {
-        End::Refuted
-    };
-    Some(end == expected)
+    let assumptions = draw_clause(alloc, draws, 5, width);
+    let agreed = agrees_under(alloc, clauses, log, watched, &assumptions);
+    drop(assumptions);
+    agreed
 }
 
 /// A log of clauses over five variables, with its index or without.
@@ -126,6 +171,16 @@ pub(crate) fn log_of(alloc: Global, clauses: ClauseSet, is_covered: bool) -> Opt
     Some(Log::new(alloc, clauses, 1000, 10000))
 }
 
+/// A log of the clauses of a seed, with its index or without.
+pub(crate) fn drawn_log(alloc: Global, seed: u64, clauses: u32, is_covered: bool) -> Option<Log>
+    ensures { IfSome result (λ log. log.variables ≡ 5) }
+{
+    match draw_set(alloc, seed, clauses) {
+        Some(set) => log_of(alloc, set, is_covered),
+        None => None,
+    }
+}
+
 /// Whether six questions to one search are answered as by trying all assignments.
 fn all_agree(
     alloc: Global,
@@ -133,39 +188,68 @@ fn all_agree(
     clauses: &ClauseSet,
     log: &mut Log,
     watched: &mut Watched,
-) -> Option<bool>
+) -> bool
     requires clauses { clauses.now.variables ≡ 5 }
     requires log { log.old.variables ≡ 5 }
 {
     'questions: for _ in 0..6 {
-        if !agrees(alloc, draws, clauses, log, watched)? {
-            return Some(false);
+        if !agrees(alloc, draws, clauses, log, watched) {
+            return false;
         }
     }
-    Some(true)
+    true
 }
 
-/// The same over the clauses of a seed. Every other log has its index.
-fn is_agreed(alloc: Global, seed: u64) -> Option<bool> {
-    let number = Draws::new(seed).draw(21);
-    let clauses = draw_set(alloc, &mut Draws::new(seed), 5, number)?;
-    let same = draw_set(alloc, &mut Draws::new(seed), 5, number)?;
-    let mut log = log_of(alloc, same, seed % 2 == 0)?;
+/// The same with a new search.
+fn search_agrees(alloc: Global, seed: u64, clauses: &ClauseSet, log: &mut Log) -> bool
+    requires clauses { clauses.now.variables ≡ 5 }
+    requires log { log.old.variables ≡ 5 }
+{
     let mut draws = Draws::new(seed.wrapping_add(1000));
     let mut watched = Watched::new(alloc, 5);
-    let agreed = all_agree(alloc, &mut draws, &clauses, &mut log, &mut watched);
-    drop(log);
+    let agreed = all_agree(alloc, &mut draws, clauses, log, &mut watched);
     drop(watched);
     agreed
 }
 
-fn hold_small(rt: &(impl Abort + AllocGlobal), seeds: u64) {
-    for seed in 0..seeds {
-        assert_eq!(rt; is_agreed(rt.alloc(), seed), Some(true), "seed {seed}");
+/// The same over so many clauses of a seed, which are given. Every other log has its index.
+fn log_agrees(alloc: Global, seed: u64, number: u32, clauses: &ClauseSet) -> bool
+    requires { clauses.now.variables ≡ 5 }
+{
+    match drawn_log(alloc, seed, number, seed % 2 == 0) {
+        Some(mut log) => {
+            let agreed = search_agrees(alloc, seed, clauses, &mut log);
+            drop(log);
+            agreed
+        }
+        None => false,
     }
+}
+
+/// The same over the clauses of a seed.
+fn is_agreed(alloc: Global, seed: u64) -> bool {
+    let number = Draws::new(seed).draw(21);
+    match draw_set(alloc, seed, number) {
+        Some(clauses) => {
+            let agreed = log_agrees(alloc, seed, number, &clauses);
+            drop(clauses);
+            agreed
+        }
+        None => false,
+    }
+}
+
+/// The first seed over whose clauses a question is answered otherwise.
+fn wrong_seed(alloc: Global, seeds: u64) -> Option<u64> {
+    for seed in 0..seeds {
+        if !is_agreed(alloc, seed) {
+            return Some(seed);
+        }
+    }
+    None
 }
 
 #[test]
 fn small_sets_are_answered_as_by_trying_all(rt: HostRuntime) {
-    hold_small(&rt, 500);
+    assert_eq!(rt; wrong_seed(rt.alloc(), 500), None);
 }

@@ -6,16 +6,16 @@ use Rattle.dist_commands.proofs.check_explain_command.run_check_explain.Goals as
 
 pub returns-in-Ok-clause-answers : goal.returns-in-Ok-clause-answers
 returns-in-Ok-clause-answers g c =
-    ok_more c.judge_explanation.result _ _ (λ answer. packages_answers
+    ok_more c.judge_explanation-answer.result _ _ (λ answer. packages_answers
     (λ files repository. Then (ExplanationStage files c.args.limits.now c.args.files.now.cert.now repository) (TellsExplained files repository))
     (g.D.Desk.view c.args.desk.now) (g.D.Desk.view c.read_repository.new.desk) c.args.limits.now
     c.args.files.now.packages.now c.in-Ok.repository answer.status answer.text.items c.in-Ok.ensures.only_reads c.in-Ok.ensures.goes)
-    c.judge_explanation.ensures.answers
+    c.judge_explanation-answer.ensures.answers
 
 pub returns-in-Ok-clause-due : goal.returns-in-Ok-clause-due
 returns-in-Ok-clause-due g c =
-    err_more c.judge_explanation.result _ _ (λ refusal. packages_due
+    err_more c.judge_explanation-answer.result _ _ (λ refusal. packages_due
     (λ files repository. Then (ExplanationStage files c.args.limits.now c.args.files.now.cert.now repository) (TellsExplained files repository))
-    (g.D.Desk.view c.args.desk.now) (g.D.Desk.view c.read_repository.new.desk) (g.D.Desk.view c.judge_explanation.new.desk) c.args.limits.now
-    c.args.files.now.packages.now c.in-Ok.repository refusal c.in-Ok.ensures.only_reads c.judge_explanation.ensures.only_reads c.in-Ok.ensures.goes)
-    c.judge_explanation.ensures.due
+    (g.D.Desk.view c.args.desk.now) (g.D.Desk.view c.read_repository.new.desk) (g.D.Desk.view c.judge_explanation-answer.new.desk) c.args.limits.now
+    c.args.files.now.packages.now c.in-Ok.repository refusal c.in-Ok.ensures.only_reads c.judge_explanation-answer.ensures.only_reads c.in-Ok.ensures.goes)
+    c.judge_explanation-answer.ensures.due

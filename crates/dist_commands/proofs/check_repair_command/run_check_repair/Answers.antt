@@ -6,19 +6,19 @@ use Rattle.dist_commands.proofs.check_repair_command.run_check_repair.Goals as g
 
 pub returns-in-Ok-clause-answers : goal.returns-in-Ok-clause-answers
 returns-in-Ok-clause-answers g c =
-    ok_more c.judge_repair.result _ _ (λ answer. space-answers
+    ok_more c.judge_repair-answer.result _ _ (λ answer. space-answers
     (λ files space. Then (RepairStage files c.args.limits.now c.args.files.now.cert.now space) (TellsRepair files space))
     c.args.limits.now c.args.files.now.packages.now (g.D.Desk.view c.args.desk.now) (g.D.Desk.view c.read_space.new.desk)
     c.in-Ok.space c.in-Ok.ensures.only_reads c.in-Ok.ensures.goes answer.status answer.text.items)
-    c.judge_repair.ensures.answers
+    c.judge_repair-answer.ensures.answers
 
 pub returns-in-Ok-clause-due : goal.returns-in-Ok-clause-due
 returns-in-Ok-clause-due g c =
-    err_more c.judge_repair.result _ _ (λ refusal. space-after
+    err_more c.judge_repair-answer.result _ _ (λ refusal. space-after
     (λ files space. Then (RepairStage files c.args.limits.now c.args.files.now.cert.now space) (TellsRepair files space))
     c.args.limits.now c.args.files.now.packages.now (g.D.Desk.view c.args.desk.now) (g.D.Desk.view c.read_space.new.desk)
     c.in-Ok.space c.in-Ok.ensures.only_reads c.in-Ok.ensures.goes
-    (g.D.Desk.view c.judge_repair.new.desk) refusal c.judge_repair.ensures.only_reads) c.judge_repair.ensures.due
+    (g.D.Desk.view c.judge_repair-answer.new.desk) refusal c.judge_repair-answer.ensures.only_reads) c.judge_repair-answer.ensures.due
 
 pub returns-in-Err-clause-due : goal.returns-in-Err-clause-due
 returns-in-Err-clause-due g c =

@@ -6,25 +6,25 @@ use Rattle.dist_commands.proofs.ExplainLemmas.{explain_answered, explanation_is_
 use Rattle.dist_commands.proofs.Writings.{made_kept, untold, writer_refused, written}
 use Rattle.dist_commands.proofs.explain_command.write_explanation.Goals as goal
 
-pub returns-in-Ok-tell_explained-clause-kept : goal.returns-in-Ok-tell_explained-clause-kept
-returns-in-Ok-tell_explained-clause-kept g c =
+pub returns-in-Ok-told-clause-kept : goal.returns-in-Ok-told-clause-kept
+returns-in-Ok-told-clause-kept g c =
     let r = c.args.repository.now in
     made_kept (explain_writing c.args.limits.now c.args.words.now.limit r c.args.number) (of_explanation r c.args.limits.now) c.args.words.now.cert.now
     (g.D.Desk.view c.args.desk.now) (g.D.Desk.view c.explain.new.desk) c.in-Ok.explained c.in-Ok.ensures.first
 
-pub returns-in-Ok-tell_explained-clause-written : goal.returns-in-Ok-tell_explained-clause-written
-returns-in-Ok-tell_explained-clause-written g c =
+pub returns-in-Ok-told-clause-written : goal.returns-in-Ok-told-clause-written
+returns-in-Ok-told-clause-written g c =
     let words = c.args.words.now in
     let r = c.args.repository.now in
     written (explain_writing c.args.limits.now words.limit r c.args.number) (of_explanation r c.args.limits.now) words.cert.now
-    (g.D.Desk.view c.args.desk.now) (g.D.Desk.view c.explain.new.desk) c.in-Ok.explained c.in-Ok-tell_explained.answer.status
-    c.in-Ok-tell_explained.answer.text.items
+    (g.D.Desk.view c.args.desk.now) (g.D.Desk.view c.explain.new.desk) c.in-Ok.explained c.in-Ok-told.answer.status
+    c.in-Ok-told.answer.text.items
     (explain_answered r c.args.number words.limit c.args.limits.now words.cert.now (g.D.Desk.view c.args.desk.now) (g.D.Desk.view c.explain.new.desk)
     (Ok c.in-Ok.explained) c.in-Ok.ensures.answers)
-    c.in-Ok-tell_explained.ensures.status c.in-Ok-tell_explained.ensures.text
+    c.in-Ok-told.ensures.status c.in-Ok-told.ensures.text
 
-pub returns-in-Ok-clause-stops : goal.returns-in-Ok-clause-stops
-returns-in-Ok-clause-stops g c =
+pub returns-in-Err-told-clause-stops : goal.returns-in-Err-told-clause-stops
+returns-in-Err-told-clause-stops g c =
     let words = c.args.words.now in
     let r = c.args.repository.now in
     untold (explain_writing c.args.limits.now words.limit r c.args.number) (of_explanation r c.args.limits.now) words.cert.now
@@ -34,8 +34,8 @@ returns-in-Ok-clause-stops g c =
     (explain_answered r c.args.number words.limit c.args.limits.now words.cert.now (g.D.Desk.view c.args.desk.now) (g.D.Desk.view c.explain.new.desk)
     (Ok c.in-Ok.explained) c.in-Ok.ensures.answers)
 
-pub returns-clause-stops : goal.returns-clause-stops
-returns-clause-stops g c =
+pub returns-in-Err-clause-stops : goal.returns-in-Err-clause-stops
+returns-in-Err-clause-stops g c =
     let words = c.args.words.now in
     let r = c.args.repository.now in
     subst (λ (why : Refusal). WritingStops (explain_writing c.args.limits.now words.limit r c.args.number) words.cert.now

@@ -6,19 +6,20 @@ use Rattle.dist_commands.proofs.follow_command.follow_repository.Goals as goal
 
 pub returns-in-Ok-clause-answers : goal.returns-in-Ok-clause-answers
 returns-in-Ok-clause-answers g c =
-    ok_more c.follow_accepted.result _ _ (λ answer. chain-answers
+    ok_more c.follow_accepted-answer.result _ _ (λ answer. chain-answers
     (λ files. CertificateStage files c.args.limits.now c.args.files.now.cert.now c.args.repository)
     (AfterCertificate c.args.limits.now c.args.files.now.journal.now c.args.repository)
     (g.D.Desk.view c.args.desk.now) (g.D.Desk.view c.accept.new.desk) c.in-Ok.ensures.only_reads (c.in-Ok.accepted.header, c.in-Ok.accepted.claims)
-    c.in-Ok.ensures.goes answer.status answer.text.items) c.follow_accepted.ensures.answers
+    c.in-Ok.ensures.goes answer.status answer.text.items) c.follow_accepted-answer.ensures.answers
 
 pub returns-in-Ok-clause-due : goal.returns-in-Ok-clause-due
 returns-in-Ok-clause-due g c =
-    err_more c.follow_accepted.result _ _ (λ refusal. chain-due
+    err_more c.follow_accepted-answer.result _ _ (λ refusal. chain-due
     (λ files. CertificateStage files c.args.limits.now c.args.files.now.cert.now c.args.repository)
     (AfterCertificate c.args.limits.now c.args.files.now.journal.now c.args.repository)
     (g.D.Desk.view c.args.desk.now) (g.D.Desk.view c.accept.new.desk) c.in-Ok.ensures.only_reads (c.in-Ok.accepted.header, c.in-Ok.accepted.claims)
-    c.in-Ok.ensures.goes (g.D.Desk.view c.follow_accepted.new.desk) refusal c.follow_accepted.ensures.only_reads) c.follow_accepted.ensures.due
+    c.in-Ok.ensures.goes (g.D.Desk.view c.follow_accepted-answer.new.desk) refusal c.follow_accepted-answer.ensures.only_reads)
+    c.follow_accepted-answer.ensures.due
 
 pub returns-in-Err-clause-due : goal.returns-in-Err-clause-due
 returns-in-Err-clause-due g c =

@@ -6,8 +6,9 @@ use Rattle.dist_commands.proofs.later.tell_reached.Goals as goal
 pub returns-in-Ok : goal.returns-in-Ok
 returns-in-Ok c =
     let future = told-future c.in-Ok.plan (IsFuture c.args.space.now.repository c.args.later.now.packages) c.in-Ok.ensures.future in
-    ok-both c.tell_plan.result _ _ _ (λ answer done told. plan-told c.args.space.now c.args.later.now answer.status answer.text.items c.in-Ok.plan
-    c.requires.same future c.in-Ok.ensures.plan c.in-Ok.ensures.leads c.in-Ok.ensures.taken done told) c.tell_plan.ensures.status c.tell_plan.ensures.text
+    ok-both c.tell_plan-answer.result _ _ _ (λ answer done told. plan-told c.args.space.now c.args.later.now answer.status answer.text.items c.in-Ok.plan
+    c.requires.same future c.in-Ok.ensures.plan c.in-Ok.ensures.leads c.in-Ok.ensures.taken done told)
+    c.tell_plan-answer.ensures.status c.tell_plan-answer.ensures.text
 
 pub package-requires : goal.package-requires
 package-requires c =

@@ -11,10 +11,10 @@ use Rattle.dist_commands.proofs.sweep_command.run_sweep.Goals as goal
 pub returns-in-Ok-clause-stops : goal.returns-in-Ok-clause-stops
 returns-in-Ok-clause-stops g c =
     let words = c.args.words.now in
-    err_more c.sweep.result _ _ (λ why. command_stops
+    err_more c.sweep-answer.result _ _ (λ why. command_stops
     (Sweep words.kind words.packages.now words.cert.now words.essential words.limit) c.args.limits.now words.cert.now
-    (g.D.Desk.view c.args.desk.now) (g.D.Desk.view c.read_repository.new.desk) (g.D.Desk.view c.sweep.new.desk) c.in-Ok.ensures.only_reads
+    (g.D.Desk.view c.args.desk.now) (g.D.Desk.view c.read_repository.new.desk) (g.D.Desk.view c.sweep-answer.new.desk) c.in-Ok.ensures.only_reads
     (λ (r : PackageList). PackagesStage (g.D.Desk.view c.args.desk.now).files c.args.limits.now words.packages.now (Goes r))
     (sweep_writing c.args.limits.now words.kind words.essential words.limit) c.in-Ok.repository c.in-Ok.ensures.goes
     (λ ending rest. inr (c.in-Ok.repository, c.in-Ok.ensures.goes, rest)) (λ why ending given. given) why)
-    c.sweep.ensures.stops
+    c.sweep-answer.ensures.stops

@@ -1,34 +1,15 @@
 use Rattle.std.proofs.Common.{subst, sym}
-use Rattle.std.proofs.lemmas.Result.{err_from_is_err_and}
 use Rattle.dist_clause.specs.ClauseList.{ClauseList}
-use Rattle.dist_clause.specs.DemandLaws.{cause-chain}
 use Rattle.dist_space_clauses.specs.GatheringPrivate.{IsCauseAt, IsGroupsFront}
-use Rattle.dist_space_clauses.specs.SpaceClauses.{IsDemand, space_demands}
-use Rattle.dist_space_clauses.proofs.ThreeEnds.{three-ends}
 use Rattle.dist_space_clauses.proofs.GroupFronts.{groups-none}
 use Rattle.dist_space_clauses.proofs.clauses.made_clauses.Goals as goal
 
-pub push_found-requires : goal.push_found-requires
-push_found-requires c = record {
+pub push_all-pushed-requires : goal.push_all-pushed-requires
+push_all-pushed-requires c = record {
   front = subst (λ (set : ClauseList). IsGroupsFront c.args.space.now 1 set set) (sym c.new-set.ensures)
       (groups-none c.args.space.now c.variables.result c.args.clauses c.args.literals c.variables.ensures.value);
 }
 
-pub returns-in_err-ends-clause-err : goal.returns-in_err-ends-clause-err
-returns-in_err-ends-clause-err c =
-    let p = err_from_is_err_and c.from_residual.result c.from_residual.ensures.1 in
-    rw (p.1, p.2) (subst (λ (set : ClauseList). IsCauseAt c.args.space.now set c.in_err-ends.field-0.0) c.new-set.ensures c.in_err-ends.ensures.err)
-
-pub returns-in_err-push_required-clause-err : goal.returns-in_err-push_required-clause-err
-returns-in_err-push_required-clause-err c =
-    let s = c.args.space.now in
-    let p = err_from_is_err_and c.from_residual-in_err-push_required.result c.from_residual-in_err-push_required.ensures.1 in
-    let error = c.in_err-push_required.field-0.0 in
-    let limits = c.new-set.result in
-    let cause = cause-chain (space_demands s) _ (IsDemand s) limits.clause_limit limits.literal_limit c.push_found.new.set error c.in_ok-ends.ensures.ok
-    c.in_err-push_required.ensures.err in
-    rw (p.1, p.2) (subst (λ (set : ClauseList). IsCauseAt s set error) c.new-set.ensures cause)
-
-pub returns-clause-ends : goal.returns-clause-ends
-returns-clause-ends c =
-    three-ends c.args.space.now c.push_required.new.set.clauses c.in_ok-ends.ends c.in_ok-push_required.ensures.ok.clauses c.in_ok-ends.ensures.ends
+pub returns-in-Err-clause-err : goal.returns-in-Err-clause-err
+returns-in-Err-clause-err c =
+    subst (λ (set : ClauseList). IsCauseAt c.args.space.now set c.in-Err.error) c.new-set.ensures c.in-Err.ensures.err

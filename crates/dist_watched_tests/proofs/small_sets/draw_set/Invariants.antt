@@ -1,5 +1,0 @@
-use Rattle.std.proofs.Common.{◌≡◌}
-use Rattle.dist_watched_tests.proofs.small_sets.draw_set.Given as goal
-
-abbrev pub invariant-clauses : goal.invariant-clauses
-invariant-clauses l = l.set.variables ≡ l.variables
