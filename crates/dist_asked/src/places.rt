@@ -1,6 +1,7 @@
 //! The places of a list of atoms that have to be asked.
-ghost use Rattle.std.specs.Prelude.{◌≡◌, ◌↔◌, [], IfOk, IsTrue};
+ghost use Rattle.std.specs.Prelude.{◌≡◌, ◌↔◌, [], false, Contains, IfOk, IsTrue, List};
 ghost use Rattle.dist_asked.specs.AskedPlaces.{AreEnough, IsPlaceAsked};
+ghost use Rattle.dist_relation.specs.declared.atom.Atom.{Atom};
 
 use crate::placed::{marks_of, placed_in_field, placed_in_item};
 use dist_relation::{Alternatives, Atoms};
@@ -26,8 +27,9 @@ impl Model for AskedPlaces {
 
 impl AskedPlaces {
     /// All places of any list.
-    fn all(alloc: Global) -> AskedPlaces
-        ensures { result ≡ [] }
+    pub fn all(alloc: Global) -> AskedPlaces
+        ensures all { result ≡ [] }
+        ensures enough { (atoms : List Atom) → AreEnough atoms result }
     {
         AskedPlaces {
             marks: Vec::new(alloc),
@@ -56,6 +58,13 @@ impl AskedPlaces {
         let mut placed = placed_in_field(alloc, atoms)?;
         let marks = marks_of(alloc, atoms.len(), &mut placed)?;
         Ok(AskedPlaces { marks })
+    }
+
+    /// Whether some place does not have to be asked.
+    pub fn leaves_out(&self) -> bool
+        ensures { IsTrue result ↔ Contains self.now false }
+    {
+        self.marks.as_slice().contains(&false)
     }
 
     /// Whether a place has to be asked.

@@ -1,16 +1,14 @@
 -- The list of relations, one relation after another.
 use Rattle.std.proofs.Common.{◌≡◌, ◌⊎◌, ◌↔◌, inl, inr, ℕ, ◌+◌, ◌<◌, ◌≤◌, false, List, [], ◌∷◌, ◌++◌, length, get_or}
 use Rattle.std.proofs.Common.{map, Some, slice_get}
-use Rattle.std.proofs.Common.{refl, sym, ap, ap₂, subst, ◌∙◌, arith, take}
-use Rattle.std.specs.Prelude.{AllPairs, Any, Contains, IsSomeAnd}
+use Rattle.std.proofs.Common.{refl, sym, ap, ap₂, subst, ◌∙◌, arith}
+use Rattle.std.specs.Prelude.{AllPairs, Contains, IsSomeAnd}
 use Rattle.std.proofs.lemmas.Bool.{cases_lt}
-use Rattle.std.proofs.lemmas.List.{take_all, take_more}
-use Rattle.std.proofs.lemmas.Option.{get_or_from_slice_get}
 use Rattle.std.proofs.lemmas.List.Elements.{Contains-append_cases, Contains-append_left, Contains-append_right}
 use Rattle.std.proofs.lemmas.List.Elements.{Contains-get_or, Contains-push, Contains-push_cases}
 use Rattle.std.proofs.lemmas.List.Kept.{AllPairs-cons, AllPairs-from_increasing}
 use Rattle.std.proofs.lemmas.List.Quantifiers.{all_pairs_push}
-use Rattle.dist_base.specs.ListLaws.{all-contained, any-contained, any-there, at-has, at-weaker, has-at, here-at}
+use Rattle.dist_base.specs.ListLaws.{all-contained, at-has, at-weaker, has-at, here-at}
 use Rattle.dist_base.specs.ListLaws.{pairs-head, pairs-tail, within-from}
 use Rattle.dist_cert.specs.ListLaws.{contains-cases, contains-later, pairs-map}
 use Rattle.dist_relation.specs.declared.atom.Atom.{Atom}
@@ -340,19 +338,6 @@ gathered-apart r first none named all sorted empty by_name by_conflict same risi
 }
 
 -- ---- tests
-
--- an alternative that is not in the front, nor the next one
-pub none-next : {X : Type 0} (P : X → Type 0) (xs : List X) (k : ℕ) (x : X) → k < length xs → slice_get xs k ≡ Some x → ¬ P x
-    → ¬ Any P (take k xs) → ¬ Any P (take (k + 1) xs)
-none-next {X} P xs k x short is not none any = elim (Contains-push_cases (take k xs) x any.1
-    (subst (λ ys. Contains ys any.1) (take_more xs k x short ∙ ap (λ (y : X). take k xs ++ y ∷ []) (get_or_from_slice_get xs k x x is))
-    (any-there P (take (k + 1) xs) any))) [
-      | inl there ↦ none (any-contained P (take k xs) any.1 there any.4)
-      | inr same ↦ not (subst P (sym same) any.4)
-    ]
-
-pub none-all : {X : Type 0} (P : X → Type 0) (xs : List X) (k : ℕ) → length xs ≤ k → ¬ Any P (take k xs) → ¬ Any P xs
-none-all P xs k past none any = none (subst (Any P) (sym (take_all k xs past)) any)
 
 -- the numbers that were looked at, with one more
 pub named-there : (old new front : List ℕ) (k : ℕ) (P : ℕ → Type 0) → ((x : ℕ) → Contains new x ↔ (Contains old x ⊎ (Contains front x × P x)))

@@ -1,13 +1,16 @@
 //! The relations of a repository, in their order.
-ghost use Rattle.std.specs.Prelude.{◌≡◌, ◌⊎◌, ◌↔◌, ◌+◌, ◌++◌, ◌<◌, ℕ, Contains, IfOk, IsTrue, OnOk, Some, length, map, slice_get};
+ghost use Rattle.std.specs.Prelude.{◌≡◌, ◌⊎◌, ◌↔◌, ◌+◌, ◌++◌, ◌<◌, ℕ, Any, Contains, IfOk, IsTrue, OnOk, Some, length, map, slice_get};
+ghost use Rattle.dist_asked.specs.AskedPlaces.{AreEnough};
 ghost use Rattle.dist_now.specs.PresentClauses.{Apart, IsMetBy, Item};
+ghost use Rattle.dist_repo.specs.Match.{Matches};
 ghost use Rattle.dist_explain.specs.RelationList.{AreRelationsOf};
 ghost use Rattle.dist_explain.specs.RelationListPrivate.{AreApart, AreListedBefore, IsNamesake, pair_with};
 
 use crate::listed::put_in_order;
+use dist_asked::AskedPlaces;
 use dist_now::Partners;
-use dist_relation::Alternatives;
-use dist_repo::{Package, Repository};
+use dist_relation::{Alternatives, Atom};
+use dist_repo::{Offer, Package, Repository};
 use std::alloc::{AllocError, Global};
 
 /// A relation between packages. Packages are numbered from 0.
@@ -19,12 +22,41 @@ pub enum Relation {
     Apart(u32, u32),
 }
 
-/// Whether a package meets an item.
-fn meets(repo: &Repository, alternatives: &Alternatives, package: &Package) -> bool
+/// Whether one of some offers is of the package of a number.
+fn is_among(offers: &[Offer], number: u32) -> bool
+    ensures { IsTrue result ↔ Any (λ offer. offer.number ≡ number) offers.now }
+{
+    offers.iter().any(|offer| offer.number == number)
+}
+
+/// Whether an atom matches the package of a number: by the offers that it matches, or by the package's entries, whichever
+/// are fewer.
+fn is_matched(repo: &Repository, atom: &Atom, number: u32, package: &Package) -> bool
+    requires { slice_get repo.now.packages number ≡ Some «package».now }
+    ensures { IsTrue result ↔ Matches repo.now.architecture atom.now «package».now }
+{
+    let offers = repo.matched(atom);
+    if offers.len() > package.provides.len() {
+        return repo.matches(atom, package);
+    }
+    is_among(offers, number)
+}
+
+/// Whether a package meets an item, by the alternatives that are asked.
+fn meets(
+    repo: &Repository,
+    number: u32,
+    package: &Package,
+    alternatives: &Alternatives,
+    asked: &AskedPlaces,
+) -> bool
+    requires number { slice_get repo.now.packages number ≡ Some «package».now }
+    requires enough { AreEnough alternatives.now asked.now }
     ensures { IsTrue result ↔ IsMetBy repo.now.architecture alternatives.now «package».now }
 {
     for place in 0..alternatives.len() {
-        if repo.matches(alternatives.get(place), package) {
+        let atom = alternatives.get(place);
+        if asked.has(place) && is_matched(repo, atom, number, package) {
             return true;
         }
     }
@@ -43,7 +75,8 @@ fn add_items_of(
     ensures { OnOk result (AreListedBefore repo.now (Item (number + 1) 0) list.new.items) }
 {
     for place in 0..package.depends.len() {
-        if !meets(repo, package.depends.get(place), package) {
+        let asked = repo.asked_alternatives(number, place);
+        if !meets(repo, number, package, package.depends.get(place), asked) {
             list.push(Relation::Needs(number, place))?;
         }
     }

@@ -1,17 +1,19 @@
 -- The variables that hold and that an atom matches: by meanings, by members and their classes, and by the providers of a name.
 use Rattle.std.proofs.Common.{◌≡◌, ◌≢◌, ◌⊎◌, ◌↔◌, ℕ, ◌<◌, ◌≤◌, Bool, true, false, List, Option, Some, length, get_or, refl, sym, ap, subst, ◌∙◌, inl, inr}
 use Rattle.std.proofs.Common.{arith, slice_get}
-use Rattle.std.specs.Prelude.{Contains, IsSomeAnd, slice_index}
+use Rattle.std.specs.Prelude.{Any, Contains, IsSomeAnd, slice_index}
 use Rattle.std.proofs.lemmas.Bool.{false≢true}
 use Rattle.std.proofs.lemmas.List.{get_or_default}
 use Rattle.dist_base.specs.Least.{IsLeast, IsLeastIfAny}
-use Rattle.dist_base.specs.ListLaws.{any-at, at-has, at-more, contains-at, has-at, here-at, within-from}
+use Rattle.dist_base.specs.ListLaws.{any-at, any-more, at-has, at-more, contains-at, found-at, has-at, here-at, within-from}
 use Rattle.dist_clause.specs.Formula.{value_of}
 use Rattle.dist_relation.specs.declared.atom.Atom.{Atom}
 use Rattle.dist_relation.specs.declared.atom.Provide.{Provide}
-use Rattle.dist_repo.specs.Match.{IsUsable, Matches, MatchesByEntry}
+use Rattle.dist_repo.specs.Match.{IsUsable, MatchesByEntry}
+use Rattle.dist_repo.specs.Offers.{AreMatched}
 use Rattle.dist_repo.specs.PackageList.{IsPackageAnd}
 use Rattle.dist_repo.specs.Providers.{AreProviders, IsProvider}
+use Rattle.dist_repo.specs.declared.offers.Offer.{Offer}
 use Rattle.dist_repo.specs.declared.package.Package.{Package}
 use Rattle.dist_future.specs.FutureHealth.{Holds}
 use Rattle.dist_space_clauses.specs.GatheringPrivate.{IsFresh, IsLaterOf, IsOfVersion}
@@ -266,18 +268,8 @@ module _ (s : SpaceView) (values : List Bool) (atom : Atom) where
       ))
       least
 
-  matches-provides : (p : Package) → Matches s.repository.architecture atom p → IsProvider s.repository.architecture atom.name p
-  matches-provides p matches = elim matches.matched [
-    | inl by_name ↦ inl by_name.name
-    | inr any ↦ let by_entry : MatchesByEntry s.repository.architecture atom any.1 = any.4 in inr (any.0, any.1, any.2, any.3, (by_entry.usable, by_entry.name))
-  ]
-
   abbrev IsBy : ℕ → Type 0
   IsBy n = IsPackageAnd s.repository.packages n (IsProvider s.repository.architecture atom.name)
-
-  pub present-by : (r : ℕ) → IsMatchedBy s atom (Present r) → IsBy r
-  present-by r matched = at-more (Matches s.repository.architecture atom) (IsProvider s.repository.architecture atom.name) matches-provides
-      s.repository.packages r matched
 
   new-by : (r k : ℕ) → IsMatchedBy s atom (New r k) → IsBy r
   new-by r k matched =
@@ -296,18 +288,6 @@ module _ (s : SpaceView) (values : List Bool) (atom : Atom) where
       (at.holds.usable, at.holds.name)))
       s.repository.packages r matched
 
-  abbrev pub IsPresentOf : ℕ → Meaning → Type 0
-  IsPresentOf n m = m ≡ Present n
-
-  pub present-provided : (but : Option ℕ) (m : Meaning) → IsMatchedBy s atom m → IsPresentBut but m → (n : ℕ)
-      × IsPackageAnd s.repository.packages n (IsProvider s.repository.architecture atom.name) × IsPresentOf n m
-  present-provided but Now matched of = absurd of
-  present-provided but (Present q) matched of = (q, present-by q matched, refl)
-  present-provided but (At c l) matched of = absurd of
-  present-provided but (New q l) matched of = absurd of
-  present-provided but (Kept q l j) matched of = absurd of
-  present-provided but (Fresh x l) matched of = absurd of
-
   pub moved-provided : (but : Option ℕ) (m : Meaning) → IsMatchedBy s atom m → IsMovedBut but m → (n : ℕ)
       × IsPackageAnd s.repository.packages n (IsProvider s.repository.architecture atom.name) × IsLaterOf n m
   moved-provided but Now matched of = absurd of
@@ -317,23 +297,7 @@ module _ (s : SpaceView) (values : List Bool) (atom : Atom) where
   moved-provided but (Kept q l j) matched of = (q, kept-by q l j matched, refl)
   moved-provided but (Fresh x l) matched of = absurd of
 
-  -- one that is left out, and one that isn't
-  left-present : (but : Option ℕ) (n : ℕ) (m : Meaning) → but ≡ Some n → IsPresentOf n m → IsPresentBut but m → ⊥
-  left-present but n m is of kind = subst (IsPresentBut but) of kind is
-
-  pub none-left : (but : Option ℕ) (providers : List ℕ) (i v : ℕ) → but ≡ Some (get_or providers i 0) → ¬ OneOf IsPresentOf (IsPresentBut but) providers i v
-  none-left but providers i v is f = left-present but (get_or providers i 0) f.meaning is f.kind.0 f.kind.1
-
-  pub present-one : (but : Option ℕ) (providers : List ℕ) (i : ℕ) (o : Option ℕ) → but ≢ Some (get_or providers i 0)
-      → IsLeastIfAny (Found (λ m. m ≡ Present (get_or providers i 0))) o
-      → IsLeastIfAny (OneOf IsPresentOf (IsPresentBut but) providers i) o
-  present-one but providers i o other least =
-      let n = get_or providers i 0 in
-      least-shift (Found (λ m. m ≡ Present n)) (OneOf IsPresentOf (IsPresentBut but) providers i) o
-      (λ v f. found-more (λ m. m ≡ Present n) (λ m. IsPresentOf n m × IsPresentBut but m) v
-      (λ m holds matched is. (is, subst (IsPresentBut but) (sym is) other)) f)
-      (λ v f. found-more (λ m. IsPresentOf n m × IsPresentBut but m) (λ m. m ≡ Present n) v (λ m holds matched both. both.0) f) least
-
+  -- one that isn't left out
   moved-other : (but : Option ℕ) (n : ℕ) (m : Meaning) → IsLaterOf n m → IsMovedBut but m → but ≢ Some n
   moved-other but n Now of kind is = of
   moved-other but n (Present q) of kind is = of
@@ -361,6 +325,58 @@ module _ (s : SpaceView) (values : List Bool) (atom : Atom) where
       least-shift (Found (IsLaterOf n)) (OneOf IsLaterOf (IsMovedBut but) providers i) o
       (λ v f. found-more (IsLaterOf n) (λ m. IsLaterOf n m × IsMovedBut but m) v (λ m holds matched of. (of, moved-but but n m other of)) f)
       (λ v f. found-more (λ m. IsLaterOf n m × IsMovedBut but m) (IsLaterOf n) v (λ m holds matched both. both.0) f) least
+
+  -- ---- the offers that the atom matches
+
+  -- the package of the offer at a place, as it is today
+  abbrev pub IsPresentAt : List Offer → ℕ → Meaning → Type 0
+  IsPresentAt offers i m = IsSomeAnd (slice_get offers i) (λ offer. m ≡ Present offer.number)
+
+  abbrev pub OfferedAt : (but : Option ℕ) (offers : List Offer) (i v : ℕ) → Type 0
+  OfferedAt but offers i v = Found (λ m. IsPresentAt offers i m × IsPresentBut but m) v
+
+  offered-by : (but : Option ℕ) (offers : List Offer) → AreMatched s.repository atom offers → (m : Meaning) → IsMatchedBy s atom m → IsPresentBut but m
+      → Any (λ (offer : Offer). m ≡ Present offer.number) offers
+  offered-by but offers are Now matched of = absurd of
+  offered-by but offers are (Present q) matched of =
+      any-more (λ (offer : Offer). offer.number ≡ q) (λ (offer : Offer). Present q ≡ Present offer.number) (λ offer is. ap (λ (n : ℕ). Present n) (sym is))
+      offers ((are q).1 matched)
+  offered-by but offers are (At c l) matched of = absurd of
+  offered-by but offers are (New q l) matched of = absurd of
+  offered-by but offers are (Kept q l j) matched of = absurd of
+  offered-by but offers are (Fresh x l) matched of = absurd of
+
+  pub offered-all : (but : Option ℕ) (offers : List Offer) (count : ℕ) (o : Option ℕ) → AreMatched s.repository atom offers → length offers ≤ count
+      → IsLeastIfAny (Before (OfferedAt but offers) count) o → IsLeastIfAny (Found (IsPresentBut but)) o
+  offered-all but offers count o are past least =
+      least-shift (Before (OfferedAt but offers) count) (Found (IsPresentBut but)) o
+      (λ v f. found-more (λ m. IsPresentAt offers f.0 m × IsPresentBut but m) (IsPresentBut but) v (λ m holds matched both. both.1) f.2)
+      (λ v f.
+      let Of : Offer → Type 0 = λ offer. f.meaning ≡ Present offer.number in
+      let at = found-at Of offers (offered-by but offers are f.meaning f.matched f.kind) in
+      let there = at-has Of offers at.place at.element at.is at.holds in (
+        at.place,
+        omega (arith, past, within-from Of offers at.place there),
+        record { meaning = f.meaning; variable_is = f.variable_is; holds = f.holds; matched = f.matched; kind = (there, f.kind) },
+      ))
+      least
+
+  -- one that is left out, and one that isn't
+  pub none-left : (but : Option ℕ) (offers : List Offer) (i v : ℕ) (offer : Offer) → slice_get offers i ≡ Some offer → but ≡ Some offer.number
+      → ¬ OfferedAt but offers i v
+  none-left but offers i v offer at is f =
+      let present = has-at (λ (x : Offer). f.meaning ≡ Present x.number) offers i offer at f.kind.0 in
+      subst (IsPresentBut but) present f.kind.1 is
+
+  pub present-one : (but : Option ℕ) (offers : List Offer) (i : ℕ) (o : Option ℕ) (offer : Offer) → slice_get offers i ≡ Some offer
+      → but ≢ Some offer.number → IsLeastIfAny (Found (λ m. m ≡ Present offer.number)) o → IsLeastIfAny (OfferedAt but offers i) o
+  present-one but offers i o offer at other least =
+      let n : ℕ = offer.number in
+      least-shift (Found (λ m. m ≡ Present n)) (OfferedAt but offers i) o
+      (λ v f. found-more (λ m. m ≡ Present n) (λ m. IsPresentAt offers i m × IsPresentBut but m) v
+      (λ m holds matched is. (at-has (λ (x : Offer). m ≡ Present x.number) offers i offer at is, subst (IsPresentBut but) (sym is) other)) f)
+      (λ v f. found-more (λ m. IsPresentAt offers i m × IsPresentBut but m) (λ m. m ≡ Present n) v
+      (λ m holds matched both. has-at (λ (x : Offer). m ≡ Present x.number) offers i offer at both.0) f) least
 
   -- ---- all together
 

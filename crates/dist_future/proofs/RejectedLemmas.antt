@@ -2,13 +2,15 @@
 use Rattle.std.proofs.Common.{◌≡◌, ℕ, ◌≤◌, Bool, false, List, Option, Some, length, sym, ap, subst, ◌∙◌, arith, slice_get}
 use Rattle.std.proofs.lemmas.Option.{same_Some, slice_get_within}
 use Rattle.dist_base.specs.Least.{IsLeastIfAny}
-use Rattle.dist_base.specs.ListLaws.{any-at, found-at}
+use Rattle.dist_asked.specs.AskedPlaces.{AreEnough, IsPlaceAsked}
+use Rattle.dist_base.specs.ListLaws.{any-at, contains-at, found-at}
 use Rattle.dist_clause.specs.Formula.{value_of}
 use Rattle.dist_relation.specs.declared.atom.Atom.{Atom}
 use Rattle.dist_repo.specs.declared.package.Package.{Package}
 use Rattle.dist_future.specs.FutureHealth.{Holds}
 use Rattle.dist_space.specs.Space.{IsMeaningOf, IsMatched, SpaceView}
 use Rattle.dist_future.specs.MatchingPrivate.{IsRejectedBy, IsRejectedFrom}
+use Rattle.dist_space_clauses.specs.WithinLaws.{matched-wider}
 use Rattle.dist_space.specs.declared.meaning.Meaning.{Meaning}
 use Rattle.dist_space.specs.declared.meaning.Meaning.TheVariants.{Present}
 use Rattle.dist_future.proofs.FoundLemmas.{IsAny}
@@ -21,22 +23,24 @@ number-of a b same = cc
 module _ (s : SpaceView) (values : List Bool) where
   -- ---- by one atom after another
 
-  -- the atom at a place matches it
-  pub record RejectedAt (number : ℕ) (atoms : List Atom) (place v : ℕ) : Type 0 where
+  -- the atom at a place is asked, and matches it
+  pub record RejectedAt (number : ℕ) (marks : List Bool) (atoms : List Atom) (place v : ℕ) : Type 0 where
     pub atom : Atom
     pub is : slice_get atoms place ≡ Some atom
+    pub is_asked : IsPlaceAsked marks place
     pub found : IsAny s values atom (Some number) v
 
-  pub rejected-one : (number : ℕ) (atoms : List Atom) (place : ℕ) (atom : Atom) (o : Option ℕ) → slice_get atoms place ≡ Some atom
-      → IsLeastIfAny (IsAny s values atom (Some number)) o → IsLeastIfAny (RejectedAt number atoms place) o
-  rejected-one number atoms place atom o is least =
-      least-shift (IsAny s values atom (Some number)) (RejectedAt number atoms place) o (λ v any. record { atom = atom; is = is; found = any })
+  pub rejected-one : (number : ℕ) (marks : List Bool) (atoms : List Atom) (place : ℕ) (atom : Atom) (o : Option ℕ) → slice_get atoms place ≡ Some atom
+      → IsPlaceAsked marks place → IsLeastIfAny (IsAny s values atom (Some number)) o → IsLeastIfAny (RejectedAt number marks atoms place) o
+  rejected-one number marks atoms place atom o is asked least =
+      least-shift (IsAny s values atom (Some number)) (RejectedAt number marks atoms place) o
+      (λ v any. record { atom = atom; is = is; is_asked = asked; found = any })
       (λ v f. let same : f.atom ≡ atom = same_Some f.atom atom (sym f.is ∙ is) in subst (λ (a : Atom). IsAny s values a (Some number) v) same f.found) least
 
-  pub rejected-all : (number : ℕ) (atoms : List Atom) (count : ℕ) (o : Option ℕ) → length atoms ≤ count
-      → IsLeastIfAny (Before (RejectedAt number atoms) count) o → IsLeastIfAny (IsRejectedBy s values number atoms) o
-  rejected-all number atoms count o past least =
-      least-shift (Before (RejectedAt number atoms) count) (IsRejectedBy s values number atoms) o
+  pub rejected-all : (number : ℕ) (marks : List Bool) (atoms : List Atom) (count : ℕ) (o : Option ℕ) → length atoms ≤ count → AreEnough atoms marks
+      → IsLeastIfAny (Before (RejectedAt number marks atoms) count) o → IsLeastIfAny (IsRejectedBy s values number atoms) o
+  rejected-all number marks atoms count o past enough least =
+      least-shift (Before (RejectedAt number marks atoms) count) (IsRejectedBy s values number atoms) o
       (λ v f.
       let at = f.2 in
       let one = at.found.1 in
@@ -49,15 +53,18 @@ module _ (s : SpaceView) (values : List Bool) where
       })
       (λ v f.
       let at = found-at (λ a. IsMatched s a f.meaning) atoms f.matched in
-      let inside = slice_get_within atoms at.place at.element at.is in (
-        at.place,
+      let wide = enough at.element (contains-at atoms at.place at.element at.is) in
+      let matched = matched-wider s at.element wide.wider f.meaning wide.within at.holds in
+      let inside = slice_get_within atoms wide.place wide.wider wide.is_wider in (
+        wide.place,
         omega (arith, past, inside),
         record {
-          atom = at.element;
-          is = at.is;
+          atom = wide.wider;
+          is = wide.is_wider;
+          is_asked = wide.is_asked;
           found = (
-            at.holds.0,
-            record { meaning = f.meaning; variable_is = f.variable_is; holds = f.holds; matched = at.holds.1; kind = f.other },
+            matched.0,
+            record { meaning = f.meaning; variable_is = f.variable_is; holds = f.holds; matched = matched.1; kind = f.other },
           );
         },
       ))

@@ -6,7 +6,8 @@ use Rattle.std.proofs.lemmas.Bool.{cases_lt}
 use Rattle.std.proofs.lemmas.List.Sums.{sum_by_more, sum_by-take-le, get_or-le-sum_by}
 use Rattle.std.proofs.lemmas.Option.{get_or_from_slice_get, same_Some, slice_get_within}
 use Rattle.dist_base.specs.Least.{IsLeastIfAny}
-use Rattle.dist_base.specs.ListLaws.{any-at, at-has, found-at, has-at, here-at}
+use Rattle.dist_asked.specs.AskedPlaces.{AreEnough, IsPlaceAsked}
+use Rattle.dist_base.specs.ListLaws.{any-at, at-has, contains-at, found-at, has-at, here-at}
 use Rattle.dist_clause.specs.Formula.{value_of}
 use Rattle.dist_relation.specs.declared.atom.Atom.{Atom}
 use Rattle.dist_repo.specs.PackageList.{PackageList}
@@ -16,6 +17,7 @@ use Rattle.dist_future.specs.FutureHealth.{Holds, IsUnmetAt, SomeHolds}
 use Rattle.dist_space.specs.Space.{IsMeaningOf, IsMatched, IsMetBy, IsSpace, SpaceView, variable_of}
 use Rattle.dist_future.specs.MatchingPrivate.{IsOther, IsUnmetItem}
 use Rattle.dist_space_clauses.specs.SpaceClauses.{IsItemAnd}
+use Rattle.dist_space_clauses.specs.WithinLaws.{matched-wider}
 use Rattle.dist_space.specs.declared.meaning.Meaning.{Meaning}
 use Rattle.dist_space.specs.declared.meaning.Meaning.TheVariants.{Now, Present, At, New, Kept, Fresh}
 use Rattle.dist_space.specs.VariableLaws.{variable-range}
@@ -37,9 +39,10 @@ other-none (Kept q k j) = λ is. let no : None ≡ Some q = is in cc
 other-none (Fresh x k) = tt
 
 module _ (s : SpaceView) (values : List Bool) where
-  -- nothing that holds is matched by the alternatives so far
-  abbrev pub IsNoneMet : List Atom → ℕ → Type 0
-  IsNoneMet item count = (k : ℕ) (atom : Atom) → k < count → slice_get item k ≡ Some atom → (m : Meaning) → Holds s values m → ¬ IsMatched s atom m
+  -- nothing that holds is matched by the alternatives so far, of those that are asked
+  abbrev pub IsNoneMet : List Atom → List Bool → ℕ → Type 0
+  IsNoneMet item marks count = (k : ℕ) (atom : Atom) → k < count → IsPlaceAsked marks k → slice_get item k ≡ Some atom → (m : Meaning) → Holds s values m
+      → ¬ IsMatched s atom m
 
   pub any-met : (item : List Atom) (place v : ℕ) (atom : Atom) → slice_get item place ≡ Some atom → IsAny s values atom None v
       → SomeHolds s values (IsMetBy s item)
@@ -49,22 +52,26 @@ module _ (s : SpaceView) (values : List Bool) where
     has = any-at (λ a. IsMatched s a found.1.meaning) item place atom is (found.0, found.1.matched);
   }
 
-  pub none-more : (item : List Atom) (place : ℕ) (atom : Atom) → slice_get item place ≡ Some atom → ((v : ℕ) → ¬ IsAny s values atom None v)
-      → IsNoneMet item place → IsNoneMet item (place + 1)
-  none-more item place atom is none before k other short at m holds matched = elim (cases_lt k place) [
-    | inl less ↦ before k other less at m holds matched
+  pub none-more : (item : List Atom) (marks : List Bool) (place : ℕ) (atom : Atom) → slice_get item place ≡ Some atom
+      → (IsPlaceAsked marks place → (v : ℕ) → ¬ IsAny s values atom None v) → IsNoneMet item marks place → IsNoneMet item marks (place + 1)
+  none-more item marks place atom is none before k other short asked at m holds matched = elim (cases_lt k place) [
+    | inl less ↦ before k other less asked at m holds matched
     | inr past ↦
         let same : k ≡ place = omega (arith, short, past) in
         let one : other ≡ atom = same_Some other atom (sym at ∙ ap (λ (i : ℕ). slice_get item i) same ∙ is) in
         let own : IsMatched s atom m = subst (λ (a : Atom). IsMatched s a m) one matched in
-        none (variable_of s m) (own.0, record { meaning = m; variable_is = refl; holds = holds; matched = own.1; kind = other-none m })
+        none (subst (IsPlaceAsked marks) same asked) (variable_of s m)
+        (own.0, record { meaning = m; variable_is = refl; holds = holds; matched = own.1; kind = other-none m })
   ]
 
-  pub none-met : (item : List Atom) (count : ℕ) → length item ≤ count → IsNoneMet item count → ¬ SomeHolds s values (IsMetBy s item)
-  none-met item count past none some =
+  pub none-met : (item : List Atom) (marks : List Bool) (count : ℕ) → length item ≤ count → AreEnough item marks → IsNoneMet item marks count
+      → ¬ SomeHolds s values (IsMetBy s item)
+  none-met item marks count past enough none some =
       let at = found-at (λ a. IsMatched s a some.meaning) item some.has in
-      let inside = slice_get_within item at.place at.element at.is in
-      none at.place at.element (omega (arith, past, inside)) at.is some.meaning some.holds at.holds
+      let wide = enough at.element (contains-at item at.place at.element at.is) in
+      let inside = slice_get_within item wide.place wide.wider wide.is_wider in
+      none wide.place wide.wider (omega (arith, past, inside)) wide.is_asked wide.is_wider some.meaning some.holds
+      (matched-wider s at.element wide.wider some.meaning wide.within at.holds)
 
   -- ---- the items of a package
 

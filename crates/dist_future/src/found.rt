@@ -2,16 +2,18 @@
 ghost use Rattle.std.specs.Prelude.{◌≡◌, ◌<◌, ◌↔◌, ℕ, Contains, IsTrue, Some, length, slice_get};
 ghost use Rattle.dist_base.specs.Least.{IsLeastIfAny};
 ghost use Rattle.dist_repo.specs.Match.{IsUsable};
+ghost use Rattle.dist_repo.specs.Offers.{AreMatched};
 ghost use Rattle.dist_repo.specs.Providers.{AreProviders};
 ghost use Rattle.dist_future.specs.FutureHealth.{IsOneEach};
 ghost use Rattle.dist_space_clauses.specs.GatheringPrivate.{IsFresh, IsLaterOf, IsOfVersion};
 ghost use Rattle.dist_future.specs.MatchingPrivate.{IsFound, IsLesserOf, IsMovedBut, IsOther, IsPresentBut};
 ghost use Rattle.dist_space.specs.EntryOrder.{IsEntryNamed};
-ghost use Rattle.dist_space.specs.Space.{IsMeaning, member_classes};
+ghost use Rattle.dist_space.specs.Space.{IsMatchedBy, IsMeaning, member_classes};
 ghost use Rattle.dist_space.specs.declared.meaning.Meaning.TheVariants as meaning;
 
 use dist_clause::Assignment;
 use dist_relation::{Atom, Provide};
+use dist_repo::Offer;
 use dist_space::{Meaning, Space};
 
 /// The lesser of two numbers, each of which may be missing.
@@ -117,25 +119,36 @@ fn member_found(space: &Space, members: &Assignment, atom: &Atom, member: u32) -
     least
 }
 
-/// The least variable of the packages as they are today, but for one.
+/// The variable of a package as it is today, if it holds, where the atom matches the package.
+fn present_one(space: &Space, members: &Assignment, atom: &Atom, number: u32) -> Option<u32>
+    requires one_each { IsOneEach space.now members.now }
+    requires matched { IsMatchedBy space.now atom.now (meaning.Present number) }
+    ensures { IsLeastIfAny (IsFound space.now members.now atom.now (λ m. m ≡ meaning.Present number)) result }
+{
+    let variable = space.variable(&Meaning::Present(number));
+    if members.value(variable) {
+        Some(variable)
+    } else {
+        None
+    }
+}
+
+/// The least variable of the packages as they are today, but for one: by the offers that the atom matches.
 fn present_found(
     space: &Space,
     members: &Assignment,
     atom: &Atom,
-    providers: &[u32],
+    offers: &[Offer],
     but: Option<u32>,
 ) -> Option<u32>
     requires one_each { IsOneEach space.now members.now }
-    requires providers { AreProviders space.now.repository atom.now.name providers.now }
+    requires matched { AreMatched space.now.repository atom.now offers.now }
     ensures { IsLeastIfAny (IsFound space.now members.now atom.now (IsPresentBut but)) result }
 {
     let mut least = None;
-    for number in providers {
-        if !is_left_out(but, *number) {
-            least = lesser(
-                least,
-                candidate(space, members, atom, Meaning::Present(*number)),
-            );
+    for offer in offers {
+        if !is_left_out(but, offer.number) {
+            least = lesser(least, present_one(space, members, atom, offer.number));
         }
     }
     least
@@ -178,28 +191,27 @@ fn fresh_found(space: &Space, members: &Assignment, atom: &Atom) -> Option<u32>
     least
 }
 
-/// The least variable that holds and that the atom matches, where those of one package may be left out. `providers` are
-/// those of the atom's name.
+/// The least variable that holds and that the atom matches, where those of one package may be left out.
 pub(crate) fn found(
     space: &Space,
     members: &Assignment,
     atom: &Atom,
-    providers: &[u32],
     but: Option<u32>,
 ) -> Option<u32>
-    requires one_each { IsOneEach space.now members.now }
-    requires providers { AreProviders space.now.repository atom.now.name providers.now }
+    requires { IsOneEach space.now members.now }
     ensures { IsLeastIfAny (λ v. IsUsable space.now.repository.architecture atom.now.qualifier × IsFound space.now members.now atom.now (IsOther but) v) result }
 {
-    if !space.repo().usable(&atom.qualifier) {
+    let repo = space.repo();
+    if !repo.usable(&atom.qualifier) {
         return None;
     }
     // What this call tells is that variables stand in their order.
     let _variables = space.variables();
     // Packages as they are today come before all others, and mostly one of them is found.
-    if let Some(variable) = present_found(space, members, atom, providers, but) {
+    if let Some(variable) = present_found(space, members, atom, repo.matched(atom), but) {
         return Some(variable);
     }
+    let providers = repo.providers(atom.name.bytes());
     let moved = moved_found(space, members, atom, providers, but);
     lesser(moved, fresh_found(space, members, atom))
 }

@@ -15,7 +15,7 @@ use dist_relation::Alternatives;
 use dist_repo::Package;
 use dist_space::{Meaning, Space};
 
-/// Whether something that holds meets the item at a place of a package.
+/// Whether something that holds meets the item at a place of a package, by the alternatives that are asked.
 fn is_met(
     space: &Space,
     members: &Assignment,
@@ -28,10 +28,10 @@ fn is_met(
     ensures some { 0 < length alternatives.now }
     ensures met { IsTrue result ↔ SomeHolds space.now members.now (IsMetBy space.now alternatives.now) }
 {
+    let asked = space.repo().asked_alternatives(number, item);
     for place in 0..alternatives.len() {
         let atom = alternatives.get(place);
-        let providers = space.repo().alternative_providers(number, item, place);
-        if found(space, members, atom, providers, None).is_some() {
+        if asked.has(place) && found(space, members, atom, None).is_some() {
             return true;
         }
     }
@@ -86,17 +86,19 @@ fn unmet(space: &Space, members: &Assignment) -> Option<(u32, u32)>
     None
 }
 
-/// The least variable of others that holds and that a conflict atom of a package matches.
+/// The least variable of others that holds and that a conflict atom of a package matches, by the atoms that are asked.
 fn rejected(space: &Space, members: &Assignment, number: u32, package: &Package) -> Option<u32>
     requires one_each { IsOneEach space.now members.now }
     requires number { slice_get space.now.repository.packages number ≡ Some «package».now }
     ensures { IsLeastIfAny (IsRejectedBy space.now members.now number «package».now.conflicts) result }
 {
+    let asked = space.repo().asked_conflicts(number);
     let mut least = None;
     for place in 0..package.conflicts.len() {
         let atom = package.conflicts.get(place);
-        let providers = space.repo().conflict_providers(number, place);
-        least = lesser(least, found(space, members, atom, providers, Some(number)));
+        if asked.has(place) {
+            least = lesser(least, found(space, members, atom, Some(number)));
+        }
     }
     least
 }

@@ -66,6 +66,16 @@ const ASSIGNMENTS: &[Assignments] = &[
         ],
     ),
     (
+        "an item and conflicts of more than eight atoms",
+        "Package: l\nVersion: 1\n\nPackage: p\nVersion: 1\nDepends: l (>= 9) | l (>= 8) | l (>= 7) | l (>= 6) | l (>= 5) | l (>= 4) | l (>= 3) | l (>= 2) | l (>= 1)\nConflicts: q (>= 9), q (>= 8), q (>= 7), q (>= 6), q (>= 5), q (>= 4), q (>= 3), q (>= 2), q (>= 1)\n\nPackage: q\nVersion: 1\n",
+        false,
+        &[
+            (&[1, 2, 3], FutureHealth::Healthy),
+            (&[3], FutureHealth::Unmet(3, 0)),
+            (&[2, 3, 4], FutureHealth::Conflict(3, 4)),
+        ],
+    ),
+    (
         "essential names",
         ESSENTIAL,
         true,

@@ -1,15 +1,20 @@
 -- The members of an installation, and what they meet.
-use Rattle.std.proofs.Common.{◌≡◌, ℕ, zero, suc, ◌<◌, ◌≤◌, Bool, true, false, List, [], ◌∷◌, length, get_or, Some, Option, refl, sym, subst, ◌∙◌, arith, inl}
+use Rattle.std.proofs.Common.{◌≡◌, ℕ, zero, suc, ◌<◌, ◌≤◌, Bool, true, false, List, [], ◌∷◌, length, get_or, None, Some, Option}
+use Rattle.std.proofs.Common.{refl, sym, subst, ◌∙◌, arith, inl}
 use Rattle.std.proofs.Common.{inr, slice_get}
-use Rattle.std.specs.Prelude.{Any, Contains}
+use Rattle.std.specs.Prelude.{Any, Contains, IfSome, IsSomeAnd}
 use Rattle.std.proofs.lemmas.List.{get_or_default}
-use Rattle.dist_base.specs.ListLaws.{any-cases, any-head, any-later, at-has, at-weaker}
+use Rattle.dist_base.specs.ListLaws.{any-cases, any-head, any-later, any-more, at-has, at-more, at-weaker}
+use Rattle.dist_asked.specs.Within.{IsWithin}
 use Rattle.dist_relation.specs.declared.atom.Atom.{Atom}
-use Rattle.dist_repo.specs.Match.{Matches, MatchesByEntry}
+use Rattle.dist_relation.specs.Satisfies.{Satisfies}
+use Rattle.dist_relation.specs.declared.atom.Bound.{Bound}
+use Rattle.dist_repo.specs.Match.{IsUsable, Matches, MatchesByEntry}
 use Rattle.dist_repo.specs.PackageList.{PackageList, IsPackageAnd}
-use Rattle.dist_repo.specs.Providers.{AreProviders, IsProvider}
+use Rattle.dist_repo.specs.Providers.{AreProviders, IsEntryOf, IsProvider}
 use Rattle.dist_repo.specs.declared.package.Package.{Package}
 use Rattle.dist_now.specs.Members.{IsMemberAnd, members_of}
+use Rattle.dist_now.specs.WithinLaws.{matches-within}
 
 pub member-any : (P : Package → Type 0) (packages : List Package) (flags : List Bool) (k : ℕ) → slice_get flags k ≡ Some true → IsPackageAnd packages k P
     → Any P (members_of packages flags)
@@ -46,6 +51,35 @@ matched-provides architecture atom p matches =
       | inl by_name ↦ inl by_name.name
       | inr any ↦ let by_entry : MatchesByEntry architecture atom any.1 = any.4 in inr (any.0, any.1, any.2, any.3, (by_entry.usable, by_entry.name))
     ]
+
+-- and a usable atom without a bound matches all that provide its name
+pub provider-matches : (architecture : Option (List ℕ)) (atom : Atom) (p : Package) → IsUsable architecture atom.qualifier → atom.bound ≡ None
+    → IsProvider architecture atom.name p → Matches architecture atom p
+provider-matches architecture atom p usable unbounded provides = record {
+  usable = usable;
+  matched = elim provides [
+    | inl named ↦ inl (record { name = named; bound = subst (λ (b : Option Bound). IfSome b (λ bound. Satisfies p.version bound)) (sym unbounded) tt })
+    | inr any ↦ inr (any-more (IsEntryOf architecture atom.name) (MatchesByEntry architecture atom) (λ entry of. record {
+      usable = of.0;
+      name = of.1;
+      bound = subst (λ (b : Option Bound). IfSome b (λ bound. IsSomeAnd entry.version (λ version. Satisfies version bound))) (sym unbounded) tt;
+    }) p.provides any)
+  ];
+}
+
+-- an atom that is not usable matches no member
+pub unusable-none : (architecture : Option (List ℕ)) (atom : Atom) (members : List Package) → ¬ IsUsable architecture atom.qualifier
+    → ¬ Any (Matches architecture atom) members
+unusable-none architecture atom members not any = let matches : Matches architecture atom any.1 = any.4 in not matches.usable
+
+-- the provider at a place is matched by such an atom
+pub provider-matched : (r : PackageList) (atom : Atom) (providers : List ℕ) (k : ℕ) → IsUsable r.architecture atom.qualifier → atom.bound ≡ None
+    → AreProviders r atom.name providers → k < length providers
+    → IsPackageAnd r.packages (get_or providers k 0) (Matches r.architecture atom)
+provider-matched r atom providers k usable unbounded are short =
+    at-more (IsProvider r.architecture atom.name) (Matches r.architecture atom) (λ p is. provider-matches r.architecture atom p usable unbounded is)
+    r.packages (get_or providers k 0)
+    ((are.exact (get_or providers k 0)).0 (k, short, get_or_default providers k (get_or providers k 0) 0 short))
 
 -- ---- the providers of a name, as far as they were gone through
 
@@ -93,6 +127,12 @@ provider-any r flags atom number p member here matches =
 -- some member meets an alternative
 abbrev pub IsMetBy : PackageList → List Bool → Atom → Type 0
 IsMetBy r flags atom = Any (Matches r.architecture atom) (members_of r.packages flags)
+
+-- and so it meets a wider one
+pub met-wider : (r : PackageList) (flags : List Bool) (atom other : Atom) → IsWithin atom other → IsMetBy r flags atom → IsMetBy r flags other
+met-wider r flags atom other within met =
+    any-more (Matches r.architecture atom) (Matches r.architecture other) (λ p matches. matches-within r.architecture atom other p within matches)
+    (members_of r.packages flags) met
 
 -- a member of a name
 pub named-any : (r : PackageList) (flags : List Bool) (name : List ℕ) (number : ℕ) (p : Package) → slice_get flags number ≡ Some true

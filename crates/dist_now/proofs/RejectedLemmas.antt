@@ -1,24 +1,26 @@
 -- The least member that the conflict atoms of another one match.
-use Rattle.std.proofs.Common.{◌≡◌, ◌⊎◌, ℕ, ◌+◌, ◌≤◌, Bool, true, List, length, get_or, Some, None, Option, refl, sym, ap, ◌∙◌, subst, arith, inl, inr}
+use Rattle.std.proofs.Common.{◌≡◌, ◌⊎◌, ℕ, ◌+◌, ◌<◌, ◌≤◌, Bool, true, List, length, get_or, Some, None, Option, refl, sym, ap, ◌∙◌, subst, arith, inl, inr}
 use Rattle.std.proofs.Common.{slice_get}
 use Rattle.std.specs.Prelude.{Contains, IsSomeAnd}
 use Rattle.std.proofs.lemmas.Bool.{cases_lt}
 use Rattle.std.proofs.lemmas.List.{get_or_default}
 use Rattle.std.proofs.lemmas.List.Kept.{AllPairs-from_increasing}
 use Rattle.dist_base.specs.Least.{IsLeast, IsLeastIfAny}
-use Rattle.dist_base.specs.ListLaws.{at-has, at-weaker, element-is, found-at, has-at, some-element, within-from}
+use Rattle.dist_base.specs.ListLaws.{at-has, at-weaker, found-at, has-at, here-at, within-from}
+use Rattle.dist_asked.specs.AskedLaws.{IsAskedAnd, IsByWidth, given-by}
+use Rattle.dist_asked.specs.AskedPlaces.{AreEnough, IsPlaceAsked}
 use Rattle.dist_relation.specs.declared.atom.Atom.{Atom}
-use Rattle.dist_repo.specs.Match.{Matches}
+use Rattle.dist_repo.specs.Match.{IsUsable, Matches}
 use Rattle.dist_repo.specs.Offers.{AreMatched}
 use Rattle.dist_repo.specs.PackageList.{PackageList}
 use Rattle.dist_repo.specs.Providers.{AreProviders, IsProvider}
 use Rattle.dist_repo.specs.declared.offers.Offer.{Offer}
 use Rattle.dist_repo.specs.declared.package.Package.{Package}
-use Rattle.dist_now.specs.RejectedPrivate.{IsNoneRejected, IsOtherMember, IsRejected, IsRejectedBy}
+use Rattle.dist_now.specs.RejectedPrivate.{IsOtherMember, IsRejected, IsRejectedBy}
 use Rattle.dist_now.proofs.AddsLemmas.{UpTo}
 use Rattle.dist_now.proofs.MatchedLemmas.{IsNumberAt, matched-at}
 use Rattle.dist_now.proofs.MemberLemmas.{matched-provides}
-use Rattle.std.proofs.lemmas.Option.{slice_get_within}
+use Rattle.dist_now.proofs.NumberLemmas.{matched-wider}
 
 -- ---- one atom
 
@@ -28,6 +30,10 @@ provider-place : (r : PackageList) (flags : List Bool) (number : ℕ) (atom : At
 provider-place r flags number atom providers are n rejected =
     (are.exact n).1 (at-weaker (Matches r.architecture atom) (IsProvider r.architecture atom.name) r.packages n (matched-provides r.architecture atom)
     rejected.1.has)
+
+-- none of so many of the first providers is one
+abbrev pub IsNoneRejected : PackageList → List Bool → ℕ → Atom → List ℕ → ℕ → Type 0
+IsNoneRejected r flags number atom providers count = (k : ℕ) → k < count → ¬ IsRejectedBy r flags number atom (get_or providers k 0)
 
 pub none-rejected : (r : PackageList) (flags : List Bool) (number : ℕ) (atom : Atom) (providers : List ℕ) (count : ℕ) → length providers ≤ count
     → AreProviders r atom.name providers
@@ -56,6 +62,12 @@ least-rejected r flags number atom providers index are none here = record {
         ]
       ];
 }
+
+-- an atom that is not usable rejects none
+pub unusable-rejected : (r : PackageList) (flags : List Bool) (number : ℕ) (atom : Atom) → ¬ IsUsable r.architecture atom.qualifier → (n : ℕ)
+    → ¬ IsRejectedBy r flags number atom n
+unusable-rejected r flags number atom not n rejected =
+    let at = here-at (Matches r.architecture atom) r.packages n rejected.1.has in not at.holds.usable
 
 -- ---- the least so far
 
@@ -156,49 +168,54 @@ module _ (r : PackageList) (flags : List Bool) (number : ℕ) (atom : Atom) (off
 abbrev pub IsRejectedAt : PackageList → List Bool → ℕ → List Atom → ℕ → ℕ → Type 0
 IsRejectedAt r flags number atoms place k = IsSomeAnd (slice_get atoms place) (λ atom. IsRejectedBy r flags number atom k)
 
-abbrev pub IsRejectedBefore : PackageList → List Bool → ℕ → List Atom → ℕ → ℕ → Type 0
-IsRejectedBefore r flags number atoms = UpTo (IsRejectedAt r flags number atoms)
+-- one of the first atoms does, of those that are asked
+abbrev pub IsRejectedBefore : PackageList → List Bool → ℕ → List Bool → List Atom → ℕ → ℕ → Type 0
+IsRejectedBefore r flags number marks atoms = UpTo (IsAskedAnd marks (IsRejectedAt r flags number atoms))
 
-pub before-none : (r : PackageList) (flags : List Bool) (number : ℕ) (atoms : List Atom) (count : ℕ) (atom : Atom) (least : Option ℕ)
-    → slice_get atoms count ≡ Some atom
-    → IsLeastIfAny (IsRejectedBefore r flags number atoms count) least → ((n : ℕ) → ¬ IsRejectedBy r flags number atom n)
-    → IsLeastIfAny (IsRejectedBefore r flags number atoms (count + 1)) least
-before-none r flags number atoms count atom least is before here =
-    least-none (IsRejectedAt r flags number atoms) count least before
-    (λ n at. here n (has-at (λ (a : Atom). IsRejectedBy r flags number a n) atoms count atom is at))
+pub before-passed : (r : PackageList) (flags : List Bool) (number : ℕ) (marks : List Bool) (atoms : List Atom) (count : ℕ) (least : Option ℕ)
+    → ¬ IsPlaceAsked marks count
+    → IsLeastIfAny (IsRejectedBefore r flags number marks atoms count) least → IsLeastIfAny (IsRejectedBefore r flags number marks atoms (count + 1)) least
+before-passed r flags number marks atoms count least passed before =
+    least-none (IsAskedAnd marks (IsRejectedAt r flags number atoms)) count least before (λ n at. passed at.is_asked)
 
-pub before-some : (r : PackageList) (flags : List Bool) (number : ℕ) (atoms : List Atom) (count : ℕ) (atom : Atom) (least : Option ℕ) (other lesser : ℕ)
+pub before-none : (r : PackageList) (flags : List Bool) (number : ℕ) (marks : List Bool) (atoms : List Atom) (count : ℕ) (atom : Atom) (least : Option ℕ)
     → slice_get atoms count ≡ Some atom
-    → IsLeastIfAny (IsRejectedBefore r flags number atoms count) least → IsLeast (IsRejectedBy r flags number atom) other
+    → IsLeastIfAny (IsRejectedBefore r flags number marks atoms count) least → ((n : ℕ) → ¬ IsRejectedBy r flags number atom n)
+    → IsLeastIfAny (IsRejectedBefore r flags number marks atoms (count + 1)) least
+before-none r flags number marks atoms count atom least is before here =
+    least-none (IsAskedAnd marks (IsRejectedAt r flags number atoms)) count least before
+    (λ n at. here n (has-at (λ (a : Atom). IsRejectedBy r flags number a n) atoms count atom is at.has))
+
+pub before-some : (r : PackageList) (flags : List Bool) (number : ℕ) (marks : List Bool) (atoms : List Atom) (count : ℕ) (atom : Atom) (least : Option ℕ)
+    (other lesser : ℕ) → slice_get atoms count ≡ Some atom → IsPlaceAsked marks count
+    → IsLeastIfAny (IsRejectedBefore r flags number marks atoms count) least → IsLeast (IsRejectedBy r flags number atom) other
     → (least ≡ Some lesser) ⊎ (lesser ≡ other) → lesser ≤ other → ((n : ℕ) → least ≡ Some n → lesser ≤ n)
-    → IsLeast (IsRejectedBefore r flags number atoms (count + 1)) lesser
-before-some r flags number atoms count atom least other lesser is before here one at_most_other at_most_least =
-    least-some (IsRejectedAt r flags number atoms) count least other lesser before (record {
-      holds = at-has (λ (a : Atom). IsRejectedBy r flags number a other) atoms count atom is here.holds;
-      least = λ n at. here.least n (has-at (λ (a : Atom). IsRejectedBy r flags number a n) atoms count atom is at);
+    → IsLeast (IsRejectedBefore r flags number marks atoms (count + 1)) lesser
+before-some r flags number marks atoms count atom least other lesser is is_asked before here one at_most_other at_most_least =
+    least-some (IsAskedAnd marks (IsRejectedAt r flags number atoms)) count least other lesser before (record {
+      holds = record { is_asked = is_asked; has = at-has (λ (a : Atom). IsRejectedBy r flags number a other) atoms count atom is here.holds };
+      least = λ n at. here.least n (has-at (λ (a : Atom). IsRejectedBy r flags number a n) atoms count atom is at.has);
     }) one at_most_other at_most_least
 
+-- a wider atom rejects no fewer members
+rejected-wider : (r : PackageList) (flags : List Bool) (number : ℕ) → IsByWidth (IsRejectedBy r flags number)
+rejected-wider r flags number atom other k within rejected =
+    (rejected.0, record { member = rejected.1.member; has = matched-wider r atom other k within rejected.1.has })
+
 -- all atoms of a member were gone through
-pub rejected-all : (r : PackageList) (flags : List Bool) (number : ℕ) (p : Package) (count : ℕ) (found : Option ℕ) → slice_get r.packages number ≡ Some p
-    → slice_get flags number ≡ Some true → length p.conflicts ≤ count
-    → IsLeastIfAny (IsRejectedBefore r flags number p.conflicts count) found → IsLeastIfAny (IsRejected r flags number) found
-rejected-all r flags number p count found is member past least =
-    least-same (IsRejectedBefore r flags number p.conflicts count) (IsRejected r flags number)
-    (λ k before. let By : Atom → Type 0 = λ a. IsRejectedBy r flags number a k in record {
-      p = p;
-      is = is;
-      member = member;
-      atom = some-element By p.conflicts before.0 before.2;
-      place = before.0;
-      is_atom = element-is By p.conflicts before.0 before.2;
-      rejected = has-at By p.conflicts before.0 (some-element By p.conflicts before.0 before.2) (element-is By p.conflicts before.0 before.2) before.2;
-    })
+pub rejected-all : (r : PackageList) (flags : List Bool) (number : ℕ) (marks : List Bool) (p : Package) (count : ℕ) (found : Option ℕ)
+    → slice_get r.packages number ≡ Some p → slice_get flags number ≡ Some true → length p.conflicts ≤ count → AreEnough p.conflicts marks
+    → IsLeastIfAny (IsRejectedBefore r flags number marks p.conflicts count) found → IsLeastIfAny (IsRejected r flags number) found
+rejected-all r flags number marks p count found is member past enough least =
+    least-same (IsRejectedBefore r flags number marks p.conflicts count) (IsRejected r flags number)
+    (λ k before.
+    let at = here-at (λ (a : Atom). IsRejectedBy r flags number a k) p.conflicts before.0 before.2.has in
+    record { p = p; is = is; member = member; atom = at.element; place = before.0; is_atom = at.is; rejected = at.holds })
     (λ k rejected. let By : Atom → Type 0 = λ a. IsRejectedBy r flags number a k in
     let same : rejected.p ≡ p = cc in
     let there : slice_get p.conflicts rejected.place ≡ Some rejected.atom = ap (λ (q : Package). slice_get q.conflicts rejected.place) (sym same)
-    ∙ rejected.is_atom in (
-      rejected.place,
-      omega (arith, past, slice_get_within p.conflicts rejected.place rejected.atom there),
-      at-has By p.conflicts rejected.place rejected.atom there rejected.rejected,
-    ))
+    ∙ rejected.is_atom in
+    let by = given-by (IsRejectedBy r flags number) p.conflicts marks (rejected-wider r flags number) enough rejected.place k
+    (at-has By p.conflicts rejected.place rejected.atom there rejected.rejected) in
+    (by.place, omega (arith, past, by.short), by.given))
     found least

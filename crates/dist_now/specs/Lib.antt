@@ -12,3 +12,4 @@ pub mod GatheringPrivate
 pub mod PresentExamples
 pub mod HealthExamples
 pub mod WithinLaws
+pub mod NoneAskedLaws

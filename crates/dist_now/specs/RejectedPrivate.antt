@@ -1,5 +1,5 @@
 -- What a member's conflict atoms match among the other members.
-use Rattle.std.specs.Prelude.{◌≡◌, ◌≢◌, ℕ, ◌<◌, Bool, true, List, Some, slice_get, slice_index_or}
+use Rattle.std.specs.Prelude.{◌≡◌, ◌≢◌, ℕ, Bool, true, List, Some, slice_get}
 use Rattle.dist_relation.specs.declared.atom.Atom.{Atom}
 use Rattle.dist_repo.specs.Match.{Matches}
 use Rattle.dist_repo.specs.PackageList.{PackageList}
@@ -9,11 +9,6 @@ use Rattle.dist_now.specs.Members.{IsMemberAnd}
 -- another member that an atom matches
 abbrev pub IsRejectedBy : PackageList → List Bool → ℕ → Atom → ℕ → Type 0
 IsRejectedBy r flags number atom k = (k ≢ number) × IsMemberAnd r.packages flags k (Matches r.architecture atom)
-
--- none of so many of the first providers is one
-abbrev pub IsNoneRejected : PackageList → List Bool → ℕ → Atom → List ℕ → ℕ → Type 0
-IsNoneRejected r flags number atom providers count =
-    (k : ℕ) → k < count → ¬ IsRejectedBy r flags number atom (slice_index_or providers k 0)
 
 -- another member
 abbrev pub IsOtherMember : List Bool → (number other : ℕ) → Type 0

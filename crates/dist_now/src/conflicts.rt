@@ -1,43 +1,17 @@
 //! The least two members in conflict, found by what conflict atoms match.
-ghost use Rattle.std.specs.Prelude.{◌≡◌, ◌⊎◌, ◌↔◌, ◌<◌, ◌≤◌, ℕ, IsTrue, MatchOption, Some, true, length, slice_get};
-ghost use Rattle.dist_base.specs.Least.{IsLeast, IsLeastIfAny, IsLeastPairIfAny, IsLesserPair};
+ghost use Rattle.std.specs.Prelude.{◌≡◌, ◌⊎◌, ◌↔◌, ◌<◌, ◌≤◌, ℕ, IsTrue, None, Some, true, length, slice_get};
+ghost use Rattle.dist_base.specs.Least.{IsLeastIfAny, IsLeastPairIfAny, IsLesserPair};
+ghost use Rattle.dist_repo.specs.Match.{IsUsable};
 ghost use Rattle.dist_repo.specs.Offers.{AreMatched};
 ghost use Rattle.dist_repo.specs.Providers.{AreProviders};
 ghost use Rattle.dist_now.specs.Fit.{IsOneEach};
 ghost use Rattle.dist_now.specs.Health.{AreConflicting};
-ghost use Rattle.dist_now.specs.RejectedPrivate.{IsNoneRejected, IsOtherMember, IsRejectedBy, IsRejected};
+ghost use Rattle.dist_now.specs.RejectedPrivate.{IsOtherMember, IsRejectedBy, IsRejected};
 
 use crate::members::is_member;
 use dist_clause::Assignment;
 use dist_relation::Atom;
 use dist_repo::{Offer, Package, Repository};
-
-/// The least other member that an atom matches, if it is among so many of the first providers of its name.
-fn rejected_provider(
-    repo: &Repository,
-    members: &Assignment,
-    number: u32,
-    atom: &Atom,
-    providers: &[u32],
-    count: usize,
-) -> Option<u32>
-    requires one_each { IsOneEach repo.now members.now }
-    requires providers { AreProviders repo.now atom.now.name providers.now }
-    requires count { count ≤ length providers.now }
-    ensures { MatchOption result (IsNoneRejected repo.now members.now number atom.now providers.now count)
-        (IsLeast (IsRejectedBy repo.now members.now number atom.now)) }
-{
-    for place in 0..count {
-        let other = providers[place];
-        if other != number
-            && is_member(repo, members, other)
-            && repo.matches(atom, repo.package(other))
-        {
-            return Some(other);
-        }
-    }
-    None
-}
 
 /// The lesser of two numbers, of which one may be missing.
 fn lesser(least: Option<u32>, other: u32) -> u32
@@ -81,37 +55,58 @@ fn rejected_offer(
     least
 }
 
-/// The least other member that an atom matches. No more providers of its name are tried than it matches offers: they rise, so
-/// the first one that is found is the least, and where none is, the offers are gone through.
+/// The least other member that a usable atom without a bound matches: the providers of its name rise, and each stands once.
+fn rejected_provider(
+    repo: &Repository,
+    members: &Assignment,
+    number: u32,
+    atom: &Atom,
+    providers: &[u32],
+) -> Option<u32>
+    requires one_each { IsOneEach repo.now members.now }
+    requires usable { IsUsable repo.now.architecture atom.now.qualifier }
+    requires unbounded { atom.now.bound ≡ None }
+    requires providers { AreProviders repo.now atom.now.name providers.now }
+    ensures { IsLeastIfAny (IsRejectedBy repo.now members.now number atom.now) result }
+{
+    for other in providers {
+        if is_other_member(repo, members, number, *other) {
+            return Some(*other);
+        }
+    }
+    None
+}
+
+/// The least other member that an atom matches.
 fn rejected_by(repo: &Repository, members: &Assignment, number: u32, atom: &Atom) -> Option<u32>
     requires { IsOneEach repo.now members.now }
     ensures { IsLeastIfAny (IsRejectedBy repo.now members.now number atom.now) result }
 {
-    let providers = repo.providers(atom.name.bytes());
-    let offers = repo.matched(atom);
-    let total = providers.len();
-    let count = total.min(offers.len());
-    if let Some(other) = rejected_provider(repo, members, number, atom, providers, count) {
-        return Some(other);
+    if atom.bound.is_some() {
+        return rejected_offer(repo, members, number, atom, repo.matched(atom));
     }
-    if count == total {
+    if !repo.usable(&atom.qualifier) {
         return None;
     }
-    rejected_offer(repo, members, number, atom, offers)
+    let providers = repo.providers(atom.name.bytes());
+    rejected_provider(repo, members, number, atom, providers)
 }
 
-/// The least other member that a conflict atom of a member matches.
+/// The least other member that a conflict atom of a member matches, by the atoms that are asked.
 fn rejected(repo: &Repository, members: &Assignment, number: u32, package: &Package) -> Option<u32>
     requires one_each { IsOneEach repo.now members.now }
     requires number { slice_get repo.now.packages number ≡ Some «package».now }
     requires member { slice_get members.now number ≡ Some true }
     ensures { IsLeastIfAny (IsRejected repo.now members.now number) result }
 {
+    let asked = repo.asked_conflicts(number);
     let mut least = None;
     for place in 0..package.conflicts.len() {
         let atom = package.conflicts.get(place);
-        if let Some(other) = rejected_by(repo, members, number, atom) {
-            least = Some(lesser(least, other));
+        if asked.has(place) {
+            if let Some(other) = rejected_by(repo, members, number, atom) {
+                least = Some(lesser(least, other));
+            }
         }
     }
     least

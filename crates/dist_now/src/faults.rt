@@ -47,7 +47,8 @@ fn unmet_item(
     ensures { IsLeastIfAny (IsUnmetItem repo.now members.now «package».now.depends) result }
 {
     for place in 0..package.depends.len() {
-        if !is_met(repo, members, package.depends.get(place)) {
+        let asked = repo.asked_alternatives(number, place);
+        if !is_met(repo, members, package.depends.get(place), asked) {
             // An item has an atom, so the place is less than the number of atoms.
             return Some(place as u32);
         }

@@ -1,11 +1,13 @@
 //! The members of an installation, by the numbers of their packages, and what they meet.
-ghost use Rattle.std.specs.Prelude.{◌≡◌, ◌<◌, ◌↔◌, true, Any, Some, IsTrue, length, slice_get};
+ghost use Rattle.std.specs.Prelude.{◌≡◌, ◌<◌, ◌↔◌, true, Any, None, Some, IsTrue, length, slice_get};
+ghost use Rattle.dist_asked.specs.AskedPlaces.{AreEnough};
 ghost use Rattle.dist_repo.specs.Healthy.{IsMet};
-ghost use Rattle.dist_repo.specs.Match.{Matches};
+ghost use Rattle.dist_repo.specs.Match.{IsUsable, Matches};
 ghost use Rattle.dist_repo.specs.Providers.{AreProviders};
 ghost use Rattle.dist_now.specs.Fit.{IsOneEach};
 ghost use Rattle.dist_now.specs.Members.{members_of};
 
+use dist_asked::AskedPlaces;
 use dist_clause::Assignment;
 use dist_relation::{Alternatives, Atom, Name};
 use dist_repo::Repository;
@@ -19,14 +21,16 @@ pub(crate) fn is_member(repo: &Repository, members: &Assignment, number: u32) ->
     number < repo.len() && members.value(number + 1)
 }
 
-/// Whether a member matches an atom without a bound: it is looked for among the providers of the name, of which each stands once.
+/// Whether a member matches a usable atom without a bound: the providers of the name do, of which each stands once.
 fn is_provider_met(repo: &Repository, members: &Assignment, atom: &Atom, providers: &[u32]) -> bool
     requires one_each { IsOneEach repo.now members.now }
+    requires usable { IsUsable repo.now.architecture atom.now.qualifier }
+    requires unbounded { atom.now.bound ≡ None }
     requires providers { AreProviders repo.now atom.now.name providers.now }
     ensures { IsTrue result ↔ Any (Matches repo.now.architecture atom.now) (members_of repo.now.packages members.now) }
 {
     for number in providers {
-        if is_member(repo, members, *number) && repo.matches(atom, repo.package(*number)) {
+        if is_member(repo, members, *number) {
             return true;
         }
     }
@@ -55,18 +59,28 @@ fn is_alternative_met(repo: &Repository, members: &Assignment, atom: &Atom) -> b
     if atom.bound.is_some() {
         return is_offer_met(repo, members, atom);
     }
+    if !repo.usable(&atom.qualifier) {
+        return false;
+    }
     let providers = repo.providers(atom.name.bytes());
     is_provider_met(repo, members, atom, providers)
 }
 
-/// Whether a member matches an alternative of an item.
-pub(crate) fn is_met(repo: &Repository, members: &Assignment, alternatives: &Alternatives) -> bool
-    requires { IsOneEach repo.now members.now }
+/// Whether a member matches an alternative of an item, by the places that are asked.
+pub(crate) fn is_met(
+    repo: &Repository,
+    members: &Assignment,
+    alternatives: &Alternatives,
+    asked: &AskedPlaces,
+) -> bool
+    requires one_each { IsOneEach repo.now members.now }
+    requires enough { AreEnough alternatives.now asked.now }
     ensures some { 0 < length alternatives.now }
     ensures met { IsTrue result ↔ IsMet repo.now.architecture (members_of repo.now.packages members.now) alternatives.now }
 {
     for place in 0..alternatives.len() {
-        if is_alternative_met(repo, members, alternatives.get(place)) {
+        let atom = alternatives.get(place);
+        if asked.has(place) && is_alternative_met(repo, members, atom) {
             return true;
         }
     }

@@ -138,13 +138,14 @@ fn add_asked(
 pub(crate) fn gather_meeting(
     repo: &Repository,
     alternatives: &Alternatives,
+    asked: &AskedPlaces,
     numbers: &mut Vec<u32>,
 ) -> Result<(), AllocError>
+    requires { AreEnough alternatives.now asked.now }
     ensures { OnOk result (AreNumbersOf repo.now (IsMetBy repo.now.architecture alternatives.now) numbers.new.items) }
 {
     numbers.clear();
-    let asked = AskedPlaces::in_item(*numbers.allocator(), alternatives)?;
-    add_asked(repo, alternatives, &asked, numbers)?;
+    add_asked(repo, alternatives, asked, numbers)?;
     put_in_order(numbers);
     Ok(())
 }

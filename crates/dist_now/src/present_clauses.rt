@@ -74,7 +74,8 @@ fn push_item(
     ensures ok { OnOk result (IsFront repo.now (Item number (place + 1)) set.old set.new) }
     ensures err { IfErr result (IsCauseAt repo.now false set.old) }
 {
-    if let Err(AllocError) = gather_meeting(repo, alternatives, &mut scratch.numbers) {
+    let asked = repo.asked_alternatives(number, place);
+    if let Err(AllocError) = gather_meeting(repo, alternatives, asked, &mut scratch.numbers) {
         return Err(PushError::NoMemory);
     }
     if scratch.numbers.as_slice().contains(&number) {

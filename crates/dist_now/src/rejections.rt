@@ -6,7 +6,7 @@ ghost use Rattle.std.specs.List.Sorted.{IsNonDecreasingBy};
 ghost use Rattle.dist_asked.specs.AskedPlaces.{AreEnough};
 ghost use Rattle.dist_repo.specs.Match.{IsUsable, Matches};
 ghost use Rattle.dist_repo.specs.PackageList.{IsPackageAnd};
-ghost use Rattle.dist_repo.specs.Providers.{IsProvider};
+ghost use Rattle.dist_repo.specs.Providers.{AreProviders, IsProvider};
 ghost use Rattle.dist_now.specs.GatheringPrivate.{Adds, AreSplitAt, IsPairFor, IsPairIn, IsPairOf, IsPairWithin, IsPairWith, IsRejectingPair, Rejects};
 
 use crate::numbers::{matches_provider, place_from};
@@ -115,8 +115,30 @@ fn add_offered(
     Ok(())
 }
 
+/// Whether so many offers cost no more than to try the providers at some places, each of which may have many entries.
+fn cost_no_more(
+    repo: &Repository,
+    atom: &Atom,
+    providers: &[u32],
+    from: usize,
+    to: usize,
+    offers: usize,
+) -> bool
+    requires providers { AreProviders repo.now atom.now.name providers.now }
+    requires to { to ≤ length providers.now }
+{
+    let mut cost = to.saturating_sub(from);
+    if offers <= cost {
+        return true;
+    }
+    for place in from..to {
+        cost = cost.saturating_add(repo.package(providers[place]).provides.len());
+    }
+    offers <= cost
+}
+
 /// Adds the pairs of a package and the others that an atom matches: by the offers that it matches, or by the providers of its
-/// name in the span, whichever are fewer.
+/// name in the span, whichever cost less.
 fn add_matched(
     repo: &Repository,
     number: u32,
@@ -138,7 +160,7 @@ fn add_matched(
         place_from(providers, span.end)
     };
     let offers = repo.matched(atom);
-    if offers.len() < to.saturating_sub(from) {
+    if cost_no_more(repo, atom, providers, from, to, offers.len()) {
         return add_offered(number, offers, span, pairs);
     }
     for place in from..to {
@@ -185,8 +207,8 @@ fn add_rejected(
     ensures whole { IfOk result (λ whole. IsTrue whole → Adds pairs.old.items pairs.new.items (λ pair. IsPairIn span.start span.end pair × IsPairWith repo.now number (Rejects repo.now «package».now) pair)) }
     ensures wide { IfOk result (λ whole. whole ≡ false → span.start + 1 < span.end) }
 {
-    let asked = AskedPlaces::in_field(*pairs.allocator(), &package.conflicts)?;
-    add_asked(repo, number, package, &asked, span, pairs)
+    let asked = repo.asked_conflicts(number);
+    add_asked(repo, number, package, asked, span, pairs)
 }
 
 /// The pairs of all packages that reject one another, with first numbers of a span and in their order; none where there

@@ -7,6 +7,7 @@ pub mod OfferLemmas
 pub mod EdgeLemmas
 pub mod SpanLemmas
 pub mod OwnLemmas
+pub mod AskedLemmas
 pub mod IndexLemmas
 pub mod TallyLemmas
 pub mod NotedLemmas

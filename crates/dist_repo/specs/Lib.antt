@@ -11,6 +11,7 @@ pub mod Offers
 pub mod EdgesPrivate
 pub mod SpansPrivate
 pub mod OwnPrivate
+pub mod AskedPrivate
 pub mod Strong
 pub mod Size
 pub mod TotalLaws

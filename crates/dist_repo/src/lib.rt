@@ -2,9 +2,10 @@
 //! provide a name. Here stand the definitions of the subject: match, conflict, healthy, installable, strong dependency.
 //!
 //! Packages stand in boxes in the order of names and versions, names in a sorted table: crafted names cannot cost the square,
-//! as in a hash with a fixed seed. Asking takes no memory.
+//! as in a hash with a fixed seed. Beside them stands which atoms of long lists have to be asked. Asking takes no memory.
 #![tactic(auto)]
 
+mod asked_lists;
 mod builder;
 mod edges;
 mod key;

@@ -1,7 +1,9 @@
 //! The packages of a file in order, and what can be asked of them without taking memory.
-ghost use Rattle.std.specs.Prelude.{◌≡◌, ◌<◌, ◌^◌, ◌↔◌, ℕ, [], Some, length, slice_get, slice_index_or, IsTrue, IfOk, MatchOption, OnOk};
+ghost use Rattle.std.specs.Prelude.{◌≡◌, ◌<◌, ◌^◌, ◌↔◌, ℕ, List, [], Some, length, slice_get, slice_index_or, IsTrue, IfOk, MatchOption, OnOk};
 ghost use Rattle.std.specs.Option.{option_copied};
+ghost use Rattle.dist_asked.specs.AskedPlaces.{AreEnough};
 ghost use Rattle.dist_relation.specs.declared.atom.Atom.{Atom};
+ghost use Rattle.dist_repo.specs.AskedPrivate.{AreAskedOfConflicts, AreAskedOfItems};
 ghost use Rattle.dist_repo.specs.Conflict.{AreInConflict};
 ghost use Rattle.dist_repo.specs.Indexed.{IsIndex};
 ghost use Rattle.dist_repo.specs.LatestPrivate.{is_last_of_name, last_of_names};
@@ -9,10 +11,11 @@ ghost use Rattle.dist_repo.specs.Match.{IsUsable, Matches};
 ghost use Rattle.dist_repo.specs.Offers.{AreMatched, AreOffers};
 ghost use Rattle.dist_repo.specs.Order.{key_cmp, IsFlat, IsInOrder, IsLatestOf};
 ghost use Rattle.dist_repo.specs.OwnPrivate.{AreCounted, AreOwn};
-ghost use Rattle.dist_repo.specs.PackageList.{IsAlternativeAt, IsConflictAt};
 ghost use Rattle.dist_repo.specs.Providers.{AreProviders, IsPackageAt};
 ghost use Rattle.dist_repo.specs.Size.{IsWithinSize};
+ghost use Rattle.dist_repo.specs.declared.package.Package.{Package};
 
+use crate::asked_lists::{AskedLists, asked_conflicts, asked_items};
 use crate::edges::meeting;
 use crate::key::{Key, compare};
 use crate::matching;
@@ -23,6 +26,7 @@ use crate::package::Package;
 use crate::pairs::{Pair, beside};
 use crate::size::has_few_relations;
 use crate::tally::tally_of;
+use dist_asked::AskedPlaces;
 use dist_base::MAX_PACKAGES;
 use dist_relation::{Atom, Name, Qualifier};
 use dist_version::Version;
@@ -39,6 +43,10 @@ pub struct Repository {
     own: Own,
     /// The names that entries of Provides have, the numbers of the providers of each, and what they offer.
     index: NameIndex,
+    /// Which alternatives of items have to be asked.
+    asked_items: AskedLists,
+    /// Which conflict atoms have to be asked.
+    asked_conflicts: AskedLists,
 }
 
 impl Model for Repository {
@@ -49,7 +57,7 @@ impl Model for Repository {
 
     ghost view = { λ r. record { architecture = r.architecture; packages = r.packages.items } };
 
-    ghost invariant = { λ r. IsRepository (record { architecture = r.architecture; packages = r.packages.items }) r.own.numbers.items r.own.offers.items r.index.names r.index.numbers r.index.offers };
+    ghost invariant = { λ r. IsRepository (record { architecture = r.architecture; packages = r.packages.items }) r.own.numbers.items r.own.offers.items r.index.names r.index.numbers r.index.offers r.asked_items r.asked_conflicts };
 }
 
 impl Repository {
@@ -67,8 +75,10 @@ impl Repository {
             Ok(tables) => Ok(Repository {
                 architecture,
                 packages,
-                own: tables.first,
-                index: tables.second,
+                own: tables.first.first,
+                index: tables.first.second,
+                asked_items: tables.second.first,
+                asked_conflicts: tables.second.second,
             }),
             Err(error) => {
                 drop(architecture);
@@ -124,21 +134,19 @@ impl Repository {
         }
     }
 
-    /// The providers of the name of an alternative, by its place in an item of a package.
-    pub fn alternative_providers(&self, number: u32, item: usize, place: usize) -> &[u32]
-        requires { (atom : Atom) × IsAlternativeAt self.now.packages number item place atom }
-        ensures { (atom : Atom) → IsAlternativeAt self.now.packages number item place atom → AreProviders self.now atom.name result.now }
+    /// Which alternatives of an item of a package have to be asked: each of the others allows no more than one of these.
+    pub fn asked_alternatives(&self, number: u32, item: usize) -> &AskedPlaces
+        ensures { (p : Package) (atoms : List Atom) → slice_get self.now.packages number ≡ Some p
+            → slice_get p.depends item ≡ Some atoms → AreEnough atoms result.now }
     {
-        let alternatives = self.package(number).depends.get(item);
-        self.providers(alternatives.get(place).name.bytes())
+        self.asked_items.find(number, item)
     }
 
-    /// The providers of the name of a conflict atom, by its place in a package.
-    pub fn conflict_providers(&self, number: u32, place: usize) -> &[u32]
-        requires { (atom : Atom) × IsConflictAt self.now.packages number place atom }
-        ensures { (atom : Atom) → IsConflictAt self.now.packages number place atom → AreProviders self.now atom.name result.now }
+    /// Which conflict atoms of a package have to be asked: each of the others allows no more than one of these.
+    pub fn asked_conflicts(&self, number: u32) -> &AskedPlaces
+        ensures { (p : Package) → slice_get self.now.packages number ≡ Some p → AreEnough p.conflicts result.now }
     {
-        self.providers(self.package(number).conflicts.get(place).name.bytes())
+        self.asked_conflicts.find(number, 0)
     }
 
     /// Whether an atom or an entry of Provides with this qualifier is usable.
@@ -215,8 +223,40 @@ impl Repository {
     }
 }
 
-/// What packages offer of their own names, and the index of the names that entries of Provides have.
+/// What is kept beside packages: who offers which name, and which places of lists have to be asked.
+type Tables = Pair<Pair<Own, NameIndex>, Pair<AskedLists, AskedLists>>;
+
+/// What is kept beside packages.
 fn tables_of(
+    alloc: Global,
+    architecture: &Option<Name>,
+    packages: &[Key],
+) -> Result<Tables, AllocError>
+    requires in_order { IsInOrder packages.now }
+    requires few { length packages.now < 2 ^ 32 }
+    ensures counted { IfOk result (λ tables. AreCounted (length packages.now) tables.first.first.numbers.items) }
+    ensures own { IfOk result (λ tables. AreOwn packages.now (length packages.now) tables.first.first.offers.items) }
+    ensures index { IfOk result (λ tables. IsIndex (record { architecture = architecture.now; packages = packages.now })
+        tables.first.second.names tables.first.second.numbers tables.first.second.offers) }
+    ensures items { IfOk result (λ tables. AreAskedOfItems packages.now tables.second.first) }
+    ensures conflicts { IfOk result (λ tables. AreAskedOfConflicts packages.now tables.second.second) }
+{
+    let offered = offered_of(alloc, architecture, packages)?;
+    beside(offered, asked_of(alloc, packages))
+}
+
+/// Which places have to be asked of items, and of conflicts.
+fn asked_of(alloc: Global, packages: &[Key]) -> Result<Pair<AskedLists, AskedLists>, AllocError>
+    requires { length packages.now < 2 ^ 32 }
+    ensures items { IfOk result (λ asked. AreAskedOfItems packages.now asked.first) }
+    ensures conflicts { IfOk result (λ asked. AreAskedOfConflicts packages.now asked.second) }
+{
+    let items = asked_items(alloc, packages)?;
+    beside(items, asked_conflicts(alloc, packages))
+}
+
+/// What packages offer of their own names, and the index of the names that entries of Provides have.
+fn offered_of(
     alloc: Global,
     architecture: &Option<Name>,
     packages: &[Key],

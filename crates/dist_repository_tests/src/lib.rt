@@ -1,7 +1,9 @@
-//! What is answered of small repositories: matches, conflicts, providers, health, the clauses of the present and their
-//! selectors, files of explanations, clusters and classes. Tests alone.
+//! What is answered of small repositories: matches, conflicts, providers, what is asked of lists, health, the clauses of the
+//! present and their selectors, files of explanations, clusters and classes. Tests alone.
 #![tactic(auto)]
 
+#[cfg(test)]
+mod asked;
 #[cfg(test)]
 mod builder;
 #[cfg(test)]

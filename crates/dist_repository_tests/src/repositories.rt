@@ -56,8 +56,7 @@ fn of_alternative<'r>(repository: &'r Repository, item: usize, place: usize) -> 
     if place >= alternatives.len() {
         return None;
     }
-    let _ = alternatives.get(place);
-    Some(repository.alternative_providers(0, item, place))
+    Some(repository.providers(alternatives.get(place).name.bytes()))
 }
 
 /// The providers of a conflict atom of the first package, where it is there.
@@ -65,8 +64,8 @@ fn of_conflict<'r>(repository: &'r Repository, place: usize) -> Option<&'r [u32]
     if repository.len() == 0 || place >= repository.package(0).conflicts.len() {
         return None;
     }
-    let _ = repository.package(0).conflicts.get(place);
-    Some(repository.conflict_providers(0, place))
+    let atom = repository.package(0).conflicts.get(place);
+    Some(repository.providers(atom.name.bytes()))
 }
 
 /// Whether a repository finds a package by this number.

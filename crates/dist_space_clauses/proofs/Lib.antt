@@ -16,4 +16,3 @@ pub mod SomeSpaceClauses
 pub mod SortedNames
 pub mod ThreeEnds
 pub mod VariableLists
-pub mod WithinLemmas

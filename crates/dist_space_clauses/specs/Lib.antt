@@ -9,3 +9,4 @@ pub mod Ends
 pub mod EndLaws
 pub use Rattle.dist_space.specs.Space
 pub mod Moving
+pub mod WithinLaws

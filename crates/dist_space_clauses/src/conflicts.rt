@@ -159,13 +159,12 @@ fn add_atoms<'a>(
     movers: &Movers<'a>,
     variables: &mut Vec<u32>,
 ) -> Result<(), AllocError>
-    requires { AreMovers space.now.repository movers.now }
+    requires number { slice_get space.now.repository.packages number ≡ Some «package».now }
+    requires movers { AreMovers space.now.repository movers.now }
     ensures { OnOk result (Gathers space.now variables.old.items variables.new.items (Excludes space.now number «package».now) (λ m. Any (λ atom. IsLater m × IsMatched space.now atom m × Excludes space.now number «package».now m) «package».now.conflicts)) }
 {
-    let asked = AskedPlaces::in_field(*variables.allocator(), &package.conflicts)?;
-    let added = add_asked(space, number, package, &asked, movers, variables);
-    drop(asked);
-    added
+    let asked = space.repo().asked_conflicts(number);
+    add_asked(space, number, package, asked, movers, variables)
 }
 
 /// Adds packages as they are.

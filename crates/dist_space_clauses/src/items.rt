@@ -145,17 +145,16 @@ fn add_asked<'a>(
 fn gather_meeting<'a>(
     space: &'a Space,
     alternatives: &'a Alternatives,
+    asked: &AskedPlaces,
     movers: &Movers<'a>,
     variables: &mut Vec<u32>,
 ) -> Result<(), AllocError>
-    requires { AreMovers space.now.repository movers.now }
+    requires enough { AreEnough alternatives.now asked.now }
+    requires movers { AreMovers space.now.repository movers.now }
     ensures { OnOk result (AreVariablesOf space.now (IsMetBy space.now alternatives.now) variables.new.items) }
 {
     variables.clear();
-    let asked = AskedPlaces::in_item(*variables.allocator(), alternatives)?;
-    let added = add_asked(space, alternatives, &asked, movers, variables);
-    drop(asked);
-    added?;
+    add_asked(space, alternatives, asked, movers, variables)?;
     put_in_order(variables);
     Ok(())
 }
@@ -178,7 +177,9 @@ fn push_item<'a>(
 {
     // What this call tells is that variables are those of a space.
     let _variables = space.variables();
-    if let Err(AllocError) = gather_meeting(space, alternatives, movers, &mut scratch.variables) {
+    let asked = space.repo().asked_alternatives(number, place);
+    let variables = &mut scratch.variables;
+    if let Err(AllocError) = gather_meeting(space, alternatives, asked, movers, variables) {
         return Err(PushError::NoMemory);
     }
     let variable = space.variable(&Meaning::Present(number));

@@ -1,18 +1,15 @@
-use Rattle.std.proofs.Common.{◌∙◌, sym, arith}
-use Rattle.std.proofs.lemmas.Bool.{false≢true, true≢false}
+use Rattle.std.proofs.Common.{arith}
+use Rattle.dist_relation.specs.declared.atom.Atom.{Atom}
 use Rattle.dist_repo.specs.Match.{Matches}
-use Rattle.dist_explain.proofs.RelationLists.{none-all, none-next}
+use Rattle.dist_now.specs.NoneAskedLaws.{none-asked-any}
+use Rattle.dist_now.specs.WithinLaws.{matches-within}
 use Rattle.dist_explain.proofs.relations.meets.Goals as goal
-
-pub loop-place-preserved : goal.loop-place-preserved
-loop-place-preserved c =
-    none-next (λ atom. Matches c.args.repo.now.architecture atom c.args.«package».now) c.args.alternatives.now c.loop-place.place c.get.result.now
-    (let e = c.len-place-end.ensures.value in omega (arith, e, c.loop-place-test.true)) c.get.ensures
-    (λ here. true≢false (sym (c.matches.ensures.1 here) ∙ c.if-matches.false)) c.loop-place.invariant
 
 pub returns : goal.returns
 returns c = (
-  (λ no. absurd (false≢true no)),
-  (λ any. absurd (none-all (λ atom. Matches c.args.repo.now.architecture atom c.args.«package».now) c.args.alternatives.now c.loop-place.place
-      (let e = c.len-place-end.ensures.value in omega (arith, e, c.loop-place-test.false)) c.loop-place.invariant any)),
+  λ is. cc,
+  λ any. absurd (none-asked-any (λ (atom : Atom). Matches c.args.repo.now.architecture atom c.args.«package».now) c.args.alternatives.now
+      c.args.asked.now c.loop-place.place
+      (λ atom other within matches. matches-within c.args.repo.now.architecture atom other c.args.«package».now within matches)
+      (let e = c.len-place-end.ensures.value in omega (arith, e, c.loop-place-test.false)) c.requires.enough c.loop-place.invariant any),
 )

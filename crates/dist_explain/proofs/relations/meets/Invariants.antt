@@ -1,7 +1,7 @@
-use Rattle.std.proofs.Common.{take}
-use Rattle.std.specs.Prelude.{Any}
+use Rattle.dist_now.specs.NoneAskedLaws.{IsNoneAsked}
 use Rattle.dist_repo.specs.Match.{Matches}
 use Rattle.dist_explain.proofs.relations.meets.Given as goal
 
+-- no alternative so far is met, of those that are asked
 abbrev pub invariant-loop-place : goal.invariant-loop-place
-invariant-loop-place l = ¬ Any (λ atom. Matches l.repo.architecture atom l.«package») (take l.place l.alternatives)
+invariant-loop-place l = IsNoneAsked (λ atom. Matches l.repo.architecture atom l.«package») l.alternatives l.asked l.place

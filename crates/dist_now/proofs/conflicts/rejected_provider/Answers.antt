@@ -1,18 +1,23 @@
-use Rattle.std.proofs.Common.{get_or, refl}
-use Rattle.dist_base.specs.ListLaws.{at-has}
-use Rattle.dist_repo.specs.Match.{Matches}
-use Rattle.dist_now.proofs.RejectedLemmas.{least-rejected}
+use Rattle.std.proofs.Common.{refl}
+use Rattle.dist_now.proofs.MemberLemmas.{provider-matched}
+use Rattle.dist_now.proofs.RejectedLemmas.{least-rejected, none-rejected}
 use Rattle.dist_now.proofs.conflicts.rejected_provider.Goals as goal
 
-pub returns-then-matches : goal.returns-then-matches
-returns-then-matches c =
-    let other = get_or c.args.providers.now c.loop-place.place 0 in
-    least-rejected c.args.repo.now c.args.members.now c.args.number c.args.atom.now c.args.providers.now c.loop-place.place c.requires.providers
-    c.loop-place.invariant (
-      c.if-other-number.true,
+pub returns-then-is_other_member : goal.returns-then-is_other_member
+returns-then-is_other_member c =
+    let r = c.args.repo.now in
+    let providers = c.args.providers.now in
+    let k = c.loop-other.other-index in
+    let is = c.if-is_other_member.ensures.0 refl in
+    least-rejected r c.args.members.now c.args.number c.args.atom.now providers k c.requires.providers c.loop-other.invariant (
+      is.0,
       record {
-        member = c.if-is_member.ensures.0 refl;
-        has = at-has (Matches c.args.repo.now.architecture c.args.atom.now) c.args.repo.now.packages other c.package.result.now c.package.ensures
-            (c.if-matches.ensures.0 refl);
+        member = is.1;
+        has = provider-matched r c.args.atom.now providers k c.requires.usable c.requires.unbounded c.requires.providers c.loop-other-test.true;
       },
     )
+
+pub returns : goal.returns
+returns c =
+    none-rejected c.args.repo.now c.args.members.now c.args.number c.args.atom.now c.args.providers.now c.loop-other.other-index c.loop-other-test.false
+    c.requires.providers c.loop-other.invariant

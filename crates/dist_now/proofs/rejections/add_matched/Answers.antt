@@ -22,6 +22,16 @@ loop-place-init c =
     (λ i x less. pair-below c.args.repo.now c.args.span.start c.args.span.end c.args.number (get_or c.providers-providers.result.now i 0) P x
     (c.place_from-from.ensures.below i less))
 
+pub cost_no_more-requires-clause-providers : goal.cost_no_more-requires-clause-providers
+cost_no_more-requires-clause-providers c =
+    subst (λ (name : List ℕ). AreProviders c.args.repo.now name c.providers-providers.result.now) c.bytes.ensures.value c.providers-providers.ensures
+
+pub cost_no_more-requires-clause-to : goal.cost_no_more-requires-clause-to
+cost_no_more-requires-clause-to c = elim c.if-number-span.branch [
+  | then-number-span w ↦ let to = w.to-is in omega (arith, to)
+  | else-number-span w ↦ let to = w.to-is in omega (arith, to, w.place_from-to.ensures.to_len)
+]
+
 pub add_match-requires-clause-provider : goal.add_match-requires-clause-provider
 add_match-requires-clause-provider c =
     let providers = c.providers-providers.result.now in
@@ -39,8 +49,8 @@ loop-place-preserved c =
     (Matches c.args.repo.now.architecture c.args.atom.now))
     c.loop-place.place c.loop-place.invariant c.in_ok-add_match.ensures
 
-pub returns-then-offers-saturating_sub : goal.returns-then-offers-saturating_sub
-returns-then-offers-saturating_sub c =
+pub returns-then-cost_no_more : goal.returns-then-cost_no_more
+returns-then-cost_no_more c =
     on_ok_weaker c.add_offered.result
     (offered-pairs c.args.repo.now c.args.span.start c.args.span.end c.args.number c.args.atom.now c.matched-offers.result.now
     c.args.pairs.now.items c.add_offered.new.pairs.items c.matched-offers.ensures) c.add_offered.ensures

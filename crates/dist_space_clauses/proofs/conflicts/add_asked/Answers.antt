@@ -8,7 +8,7 @@ use Rattle.dist_space.specs.Space.{IsMatched}
 use Rattle.dist_space_clauses.specs.SpaceClauses.{Excludes}
 use Rattle.dist_space.specs.declared.meaning.Meaning.{Meaning}
 use Rattle.dist_space_clauses.proofs.Gathered.{asked-more, asked-passed, asked-whole, count-none}
-use Rattle.dist_space_clauses.proofs.WithinLemmas.{matched-wider}
+use Rattle.dist_space_clauses.specs.WithinLaws.{matched-wider}
 use Rattle.dist_space_clauses.proofs.conflicts.add_asked.Goals.{then-has+in_ok-add_atom, else-has}
 use Rattle.dist_space_clauses.proofs.conflicts.add_asked.Goals as goal
 

@@ -4,7 +4,7 @@ use Rattle.dist_base.specs.ListLaws.{any-at}
 use Rattle.dist_asked.specs.AskedLaws.{GivesAt, IsAskedAnd}
 use Rattle.dist_space.specs.Space.{IsMatched, IsMetBy}
 use Rattle.dist_space_clauses.proofs.Gathered.{asked-more, asked-passed, asked-whole, count-none, gathers-weaker}
-use Rattle.dist_space_clauses.proofs.WithinLemmas.{matched-wider}
+use Rattle.dist_space_clauses.specs.WithinLaws.{matched-wider}
 use Rattle.dist_space_clauses.proofs.items.add_asked.Goals.{then-has+in_ok-add_matched, else-has}
 use Rattle.dist_space_clauses.proofs.items.add_asked.Goals as goal
 

@@ -8,7 +8,7 @@ pub returns : goal.returns
 returns c =
     let s = c.args.space.now in
     let item = c.args.alternatives.now in
-    let gathered = c.add_asked-added.new.variables.items in
+    let gathered = c.add_asked.new.variables.items in
     in-order s gathered c.put_in_order.new.variables.items (IsMetBy s item) (IsMetBy s item) (λ m is met. met)
-    (subst (λ (xs : List ℕ). Adds s xs gathered (IsMetBy s item)) c.clear.ensures.items c.in_ok-added.ensures)
+    (subst (λ (xs : List ℕ). Adds s xs gathered (IsMetBy s item)) c.clear.ensures.items c.in_ok-add_asked.ensures)
     c.put_in_order.ensures.rising c.put_in_order.ensures.same

@@ -1,11 +1,10 @@
 use Rattle.std.proofs.Common.{ℕ, sym, subst}
-use Rattle.dist_asked.specs.AskedPlaces.{AreEnough}
 use Rattle.dist_asked.specs.PlacedPrivate.{ArePlacedBelow}
-use Rattle.dist_asked.proofs.MarkLemmas.{all-below, enough-all, enough-marked}
+use Rattle.dist_asked.proofs.MarkLemmas.{all-below, enough-marked}
 use Rattle.dist_asked.proofs.places.AskedPlaces.in_field.Goals as goal
 
 pub returns-then-len-le-FEW : goal.returns-then-len-le-FEW
-returns-then-len-le-FEW c = subst (AreEnough c.args.atoms.now) (sym c.all.ensures) (enough-all c.args.atoms.now)
+returns-then-len-le-FEW c = c.all.ensures.enough c.args.atoms.now
 
 pub marks_of-requires : goal.marks_of-requires
 marks_of-requires c =
