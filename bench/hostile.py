@@ -38,6 +38,11 @@ def read(packages):
 
 
 # All packages of some names: the set is judged.
+def explained(fields):
+    """A package with these fields, explained."""
+    return ["explain", "packages", "cert", "--package", "p=1"], stanza("p", more=fields + "\n"), ""
+
+
 def judged(packages, members):
     return ["health", "packages", "list"], packages, members
 
@@ -192,6 +197,12 @@ ROWS = {
     "so many blank lines": (10_000_000, lambda n: read("\n" * n + stanza("a"))),
     "so many lists of blanks between commas": (50_000, lambda n: read("".join(stanza(f"p{k}", more="Depends: a" + "," * 63 + "\n") for k in range(n)))),
     "so many packages that ask for a version of one name": (40_000, lambda n: judged(*asked_by_many(n))),
+    "the health of one item of so many qualifiers that no package has": (40_000, lambda n: judged(
+        stanza("p", more="Depends: " + " | ".join(f"a:x{k}" for k in range(n // 2)) + "\n") + "".join(stanza(f"q{k:06}", more="Provides: a\n") for k in range(n // 2)), "p 1\n")),
+    "the explanation of one item of so many versions beside as many that its package provides": (40_000, lambda n: explained(
+        "Depends: " + " | ".join(f"a (= {2 * k})" for k in range(n // 2)) + "\nProvides: " + ", ".join(f"a (= {2 * k + 1})" for k in range(n // 2)))),
+    "the explanation of one item of so many names beside as many that its package provides": (40_000, lambda n: explained(
+        "Depends: " + " | ".join(f"a{k}" for k in range(n // 2)) + "\nProvides: " + ", ".join(f"b{k}" for k in range(n // 2)))),
     "so many members of one name": (100_000, lambda n: judged("".join(stanza("a", k) for k in range(n)), f"a {n - 1}\n")),
     "the clauses of as many": (40_000, lambda n: clauses(asked_by_many(n)[0])),
     "so many packages in conflict with a version of one name": (40_000, lambda n: judged(*rejecting_many(n))),
