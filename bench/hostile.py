@@ -38,13 +38,13 @@ def read(packages):
 
 
 # All packages of some names: the set is judged.
-def explained(fields):
-    """A package with these fields, explained."""
-    return ["explain", "packages", "cert", "--package", "p=1"], stanza("p", more=fields + "\n"), ""
-
-
 def judged(packages, members):
     return ["health", "packages", "list"], packages, members
+
+
+# A package with these fields: it is explained.
+def explained(fields):
+    return ["explain", "packages", "cert", "--package", "p=1"], stanza("p", more=fields + "\n"), ""
 
 
 # A certificate whose first line is refused, once the clauses were made.
