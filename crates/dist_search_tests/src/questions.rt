@@ -554,6 +554,115 @@ fn finds_the_second(alloc: Global, solver: &mut Solver) -> bool
     }
 }
 
+/// A puzzle, assumptions, a guess at the true variables, and whether these make a model in which the assumptions are true.
+type Guessed = (Puzzle, &'static [i32], &'static [u32], bool);
+
+const GUESSED: &[Guessed] = &[
+    (Puzzle::One, &[], &[1], true),
+    (Puzzle::One, &[], &[2], true),
+    (Puzzle::One, &[], &[3, 21], true),
+    (Puzzle::One, &[2], &[2, 2], true),
+    (Puzzle::Conflict, &[2], &[3, 2], true),
+    (Puzzle::One, &[], &[], false),
+    // A clause is broken.
+    (Puzzle::One, &[], &[1, 2], false),
+    (Puzzle::One, &[], &[21], false),
+    (Puzzle::Conflict, &[1], &[1], false),
+    (Puzzle::Crowded, &[21], &[21], false),
+    // An assumption is false.
+    (Puzzle::One, &[2], &[1], false),
+    (Puzzle::One, &[-3], &[3], false),
+    // No such variable.
+    (Puzzle::One, &[], &[1, 22], false),
+    (Puzzle::One, &[], &[0, 1], false),
+];
+
+/// The true variables of an assignment, as bits.
+fn bits_of(values: &Assignment) -> u32
+    requires { length values.now ≡ 21 }
+{
+    let mut bits = 0u32;
+    for variable in 1..22u32 {
+        if values.value(variable) {
+            bits |= 1 << variable;
+        }
+    }
+    bits
+}
+
+/// Listed variables, as bits.
+fn bits_among(listed: &[u32]) -> u32 {
+    listed
+        .iter()
+        .fold(0, |bits, variable| bits | 1u32.wrapping_shl(*variable))
+}
+
+/// What a question comes to, with a guess or without one, and the true variables of the model that was found.
+fn guess(alloc: Global, solver: &mut Solver, assumed: &[Lit], trues: Option<&[u32]>) -> (Seen, u32)
+    requires variables { solver.old.log.variables ≡ 21 }
+    requires assumed { IsClauseOver 21 assumed.now }
+{
+    let answer = match trues {
+        Some(trues) => solver.ask_guessing(assumed, 1, trues),
+        None => solver.ask(assumed, 1),
+    };
+    let bits = match &answer {
+        Ok(Answer::Found(values)) => bits_of(values),
+        _ => 0,
+    };
+    let seen = seen_of(alloc, solver, assumed, &answer);
+    drop(answer);
+    (seen, bits)
+}
+
+/// The same of a new solver of a puzzle, and of the assumptions of some numbers.
+fn guess_of(
+    alloc: Global,
+    puzzle: Puzzle,
+    assumptions: &[i32],
+    trues: Option<&[u32]>,
+) -> Option<(Seen, u32)> {
+    let assumed = clause(alloc, 21, assumptions)?;
+    match solver_of(alloc, puzzle, 1000, 10000) {
+        Some(mut solver) => {
+            let end = guess(alloc, &mut solver, &assumed, trues);
+            drop(solver);
+            drop(assumed);
+            Some(end)
+        }
+        None => {
+            drop(assumed);
+            None
+        }
+    }
+}
+
+/// Whether a guess that is a model is the answer, and any other leaves the answer as it is without one.
+fn is_guessed(alloc: Global, row: &Guessed) -> bool {
+    let (puzzle, assumptions, trues, model) = *row;
+    let wanted = if model {
+        Some((Seen::Found, bits_among(trues)))
+    } else {
+        guess_of(alloc, puzzle, assumptions, None)
+    };
+    wanted.is_some() && guess_of(alloc, puzzle, assumptions, Some(trues)) == wanted
+}
+
+/// The place of the first guess that comes to something else.
+fn wrong_guess(alloc: Global, rows: &[Guessed]) -> Option<usize> {
+    for place in 0..rows.len() {
+        if !is_guessed(alloc, &rows[place]) {
+            return Some(place);
+        }
+    }
+    None
+}
+
+#[test]
+fn a_guess_that_is_a_model_is_the_answer(rt: HostRuntime) {
+    assert_eq!(rt; wrong_guess(rt.alloc(), GUESSED), None);
+}
+
 /// What is tried with a solver.
 #[derive(Clone, Copy)]
 enum Trial<'a> {

@@ -88,6 +88,28 @@ impl Guesses {
         }
     }
 
+    /// The answer that was given as a guess, by its true variables, where it passes its test. Where none are listed
+    /// nothing was given.
+    pub(crate) fn given(
+        &mut self,
+        alloc: Global,
+        log: &Log,
+        assumptions: &[Lit],
+        trues: &[u32],
+    ) -> Result<Option<Answer>, AllocError>
+        requires same_variables { self.old ≡ log.now.variables }
+        requires assumptions { IsClauseOver log.now.variables assumptions.now }
+        requires lines_follow { EachLineFollows log.now.inputs log.now.clauses }
+        ensures shown { IfOk result (λ r. IfSome r (IsShown log.now assumptions.now)) }
+        ensures same_variables { self.new ≡ self.old }
+    {
+        if trues.is_empty() {
+            return Ok(None);
+        }
+        let model = self.tests.model(alloc, log, assumptions, trues)?;
+        Ok(model.map(Answer::Found))
+    }
+
     /// The next end that the search by watched literals guesses, where it passes its test.
     pub(crate) fn next(
         &mut self,

@@ -108,7 +108,29 @@ impl Solver {
         ensures adds { Adds self.old.log self.new.log self.new.derived assumptions.now limit }
         ensures answer { IsAnswer self.old.log self.new.log assumptions.now limit result }
     {
+        self.ask_guessing(assumptions, limit, &[])
+    }
+
+    /// The same, where a guess is tried first: the variables that are true in a model, perhaps. The test of it costs
+    /// what the clauses without a negative literal cost, and those in which its variables are negated.
+    pub fn ask_guessing(
+        &mut self,
+        assumptions: &[Lit],
+        limit: u32,
+        trues: &[u32],
+    ) -> Result<Answer, AskError>
+        requires limit { 1 ≤ limit }
+        requires assumptions { IsClauseOver self.old.log.variables assumptions.now }
+        ensures adds { Adds self.old.log self.new.log self.new.derived assumptions.now limit }
+        ensures answer { IsAnswer self.old.log self.new.log assumptions.now limit result }
+    {
         self.added.clear();
+        let given = self
+            .guesses
+            .given(self.alloc, &self.entries, assumptions, trues)?;
+        if let Some(answer) = given {
+            return Ok(answer);
+        }
         if let Some(answer) = self.guesses.first(self.alloc, &self.entries, assumptions)? {
             return Ok(answer);
         }
