@@ -94,6 +94,7 @@ fn derive<D: Desk>(
     desk: &mut D,
     assumptions: &[Lit],
     limit: u32,
+    trues: &[u32],
 ) -> Result<Answer, WorkError>
     requires writing { IsWriting (D.view desk.old).mode }
     requires limit { 1 ≤ limit }
@@ -110,7 +111,7 @@ fn derive<D: Desk>(
     ensures grows { Grows (D.view desk.old) (D.view desk.new) }
 {
     file_grows();
-    let answer = solver.ask(assumptions, limit);
+    let answer = solver.ask_guessing(assumptions, limit, trues);
     let _stated = solver.log().variables();
     let _within = solver.log().len();
     put_derived(alloc, solver.log(), solver.derived(), writer, desk)?;
@@ -251,6 +252,26 @@ impl Asker {
         ensures limit { self.new.limit ≡ self.old.limit }
         ensures grows { Grows (D.view desk.old) (D.view desk.new) }
     {
+        self.ask_guessing(desk, question, &[])
+    }
+
+    /// The same, where a guess at the installation is tried first: the variables that are true in it, perhaps.
+    pub fn ask_guessing<D: Desk>(
+        &mut self,
+        desk: &mut D,
+        question: &[(u32, bool)],
+        trues: &[u32],
+    ) -> Result<Reply, WorkError>
+        requires writing { IsWriting (D.view desk.old).mode }
+        requires limit { 1 ≤ self.old.limit }
+        requires question { IsOver self.old.log.variables question.now }
+        ensures ok { IfOk result (AskMore (D.view desk.old) (D.view desk.new) self.old self.new question.now) }
+        ensures err { IfErr result (AskStops self.old question.now (D.view desk.old) (D.view desk.new)) }
+        ensures holds { IfOk result (Holds self.old.log.variables question.now) }
+        ensures variables { self.new.log.variables ≡ self.old.log.variables }
+        ensures limit { self.new.limit ≡ self.old.limit }
+        ensures grows { Grows (D.view desk.old) (D.view desk.new) }
+    {
         file_grows();
         let variables = self.solver.log().variables();
         let assumptions = clause_of(self.alloc, question)?;
@@ -262,6 +283,7 @@ impl Asker {
             desk,
             &assumptions,
             self.limit,
+            trues,
         )?;
         put_answer(self.alloc, &mut self.writer, desk, &answer, variables)?;
         Ok(reply_of(answer))
