@@ -3,7 +3,7 @@ use Rattle.std.proofs.Common.{◌≡◌, inl, inr, ℕ, zero, suc, ◌+◌, ◌-
 use Rattle.std.proofs.Common.{get_or, refl, sym, ap, subst, ◌∙◌, arith, nat_le}
 use Rattle.std.proofs.Math.Path.{fun_ext}
 use Rattle.std.specs.List.{AllPairs, AllAdjacentBelow, Contains, list_any}
-use Rattle.std.proofs.lemmas.Bool.{and_parts, and_from, cases_Bool, cases_lt, eqb-true, or_from, or_parts, or_right, le-leb, leb-true}
+use Rattle.std.proofs.lemmas.Bool.{and_parts, and_from, cases_Bool, cases_lt, eqb-true, or_from, or_left, or_parts, or_right, le-leb, leb-true}
 use Rattle.std.proofs.lemmas.Bool.{not-true, not-false, not_from_true, not_from_false}
 use Rattle.std.proofs.lemmas.List.{get_or-map, get_or_default, get_or_past, length-map}
 use Rattle.std.proofs.lemmas.List.Folds.{Any-from_list_any, list_any-from_Any}
@@ -16,7 +16,7 @@ use Rattle.dist_check_group.specs.Cover.{CoverView}
 use Rattle.dist_check_group.specs.Group.{GroupView}
 use Rattle.dist_check_group.specs.Challenge.{OmitsPair, is_covered, is_held, is_listed, is_used}
 use Rattle.dist_check_group.specs.MarksPrivate.{is_marked}
-use Rattle.dist_check_group.specs.FoundPrivate.{FoundView, IsFoundFor, is_asked, is_open, leaves_out}
+use Rattle.dist_check_group.specs.FoundPrivate.{FoundView, IsFoundFor, is_asked, is_open, leaves_out, may_ask}
 
 -- ---- pairs in order
 
@@ -80,12 +80,13 @@ undecided-asked layout w cover variable named by undecided found x pair there cl
 
 covers : (layout : LayoutView) (w : WindowView) (cover : CoverView) (variable : ℕ) (named : List ℕ) (by undecided : List (ℕ × ℕ))
     (found : FoundView) → IsFoundFor layout w cover variable named by undecided found
-    → (pair : ℕ × ℕ) → is_asked layout found variable pair.0 ≡ true
+    → (pair : ℕ × ℕ) → Contains undecided pair → is_asked layout found variable pair.0 ≡ true
     → (not (is_among found.used pair.0) || is_marked found.held (at_class layout pair)) ≡ is_covered layout w cover named pair
-covers layout w cover variable named by undecided found x pair asked =
+covers layout w cover variable named by undecided found x pair there asked =
     ap (λ (b : Bool). not b || is_marked found.held (at_class layout pair))
     (x.used_is pair.0 ∙ and-asked (is_used layout w cover named pair.0) (is_asked layout found variable pair.0) asked)
-    ∙ ap (λ (b : Bool). not (is_used layout w cover named pair.0) || b) (x.held_is (at_class layout pair))
+    ∙ ap (λ (b : Bool). not (is_used layout w cover named pair.0) || b) (x.pairs_are (at_class layout pair)
+    (x.undecided_is (at_class layout pair) ∙ at-listed layout undecided pair there))
 
 any-same : (f g : ℕ × ℕ → Bool) (xs : List (ℕ × ℕ)) → ((pair : ℕ × ℕ) → Contains xs pair → f pair ≡ g pair) → list_any f xs ≡ list_any g xs
 any-same f g [] same = refl
@@ -99,7 +100,7 @@ pub covered-is : (layout : LayoutView) (w : WindowView) (cover : CoverView) (var
     ≡ list_any (is_covered layout w cover named) undecided
 covered-is layout w cover variable named by undecided found x =
     any-same (λ pair. not (is_among found.used pair.0) || is_marked found.held (at_class layout pair)) (is_covered layout w cover named) undecided
-    (λ pair there. covers layout w cover variable named by undecided found x pair
+    (λ pair there. covers layout w cover variable named by undecided found x pair there
     (undecided-asked layout w cover variable named by undecided found x pair there pair.0))
 
 -- ---- a pair that is left out
@@ -145,6 +146,7 @@ omits-from layout w group variable named by undecided found x e =
     let within = class.within in
     let there : is_among found.used cluster ≡ true = any-from cluster found.used (any.0, any.2, any.3) in
     let used = and_parts (is_used layout w group.cover named cluster) (is_asked layout found variable cluster) (sym (x.used_is cluster) ∙ there) in
+    let told = x.classes_are cluster v used.0 (any-from v (classes_of layout cluster) (here.0, here.2, here.3)) in
     record {
       pair = pair;
       is_pair = and_from _ (not (cluster == cluster_of layout variable))
@@ -160,7 +162,7 @@ omits-from layout w group variable named by undecided found x e =
           ∙ not-true (is_among found.undecided v) unlisted.1;
       uncovered = or_from (not (is_used layout w group.cover named cluster)) (is_held layout w group.cover named (at_class layout pair))
           (not_from_true (is_used layout w group.cover named cluster) used.0)
-          (sym (x.held_is (at_class layout pair)) ∙ ap (λ (n : ℕ). is_marked found.held n) class.is ∙ not-true (is_marked found.held v) open_still.1);
+          (ap (λ (n : ℕ). is_held layout w group.cover named n) class.is ∙ sym told ∙ not-true (is_marked found.held v) open_still.1);
     }
 
 pub omits-to : (layout : LayoutView) (w : WindowView) (group : GroupView) (variable : ℕ) (named : List ℕ) (by undecided : List (ℕ × ℕ))
@@ -178,12 +180,14 @@ omits-to layout w group variable named by undecided found x omits =
     let within : pair.1 - 1 < length (classes_of layout pair.0) = omega (arith, from, upto) in
     let is_used_here : Bool = is_used layout w group.cover named pair.0 in
     let uncovered = or_parts (not is_used_here) (is_held layout w group.cover named v) omits.uncovered in
+    let at = get_or_default (classes_of layout pair.0) (pair.1 - 1) v 0 within in
+    let told = x.classes_are pair.0 v (not-false is_used_here uncovered.0) (any-from v (classes_of layout pair.0) (pair.1 - 1, within, at)) in
     let open_still : is_open found v ≡ true = and_from (not (is_among found.by v) && not (is_among found.undecided v)) (not (is_marked found.held v))
     (and_from (not (is_among found.by v)) (not (is_among found.undecided v)) (not_from_false (is_among found.by v) (x.by_is v ∙ omits.unlisted))
     (not_from_false (is_among found.undecided v) (x.undecided_is v ∙ omits.decided)))
-    (not_from_false (is_marked found.held v) (x.held_is v ∙ uncovered.1)) in
+    (not_from_false (is_marked found.held v) (told ∙ uncovered.1)) in
     let class = list_any-from_Any (is_open found) (classes_of layout pair.0)
-    (pair.1 - 1, v, within, get_or_default (classes_of layout pair.0) (pair.1 - 1) v 0 within, open_still) in
+    (pair.1 - 1, v, within, at, open_still) in
     let leaves : leaves_out layout found variable pair.0 ≡ true = and_from (nat_le 1 pair.0 && not (pair.0 == cluster_of layout variable))
     (list_any (is_open found) (classes_of layout pair.0))
     (and_from (nat_le 1 pair.0) (not (pair.0 == cluster_of layout variable)) cluster.0 own.1) class in
@@ -191,3 +195,18 @@ omits-to layout w group variable named by undecided found x omits =
     let used = from-any pair.0 found.used
     (x.used_is pair.0 ∙ and_from is_used_here (is_asked layout found variable pair.0) (not-false is_used_here uncovered.0) asked) in
     list_any-from_Any (leaves_out layout found variable) found.used (used.0, pair.0, used.1, used.2, leaves)
+
+-- ---- what a test may ask for
+
+pub asks-pair : (layout : LayoutView) (undecided clusters : List ℕ) (v : ℕ) → is_among undecided v ≡ true → may_ask layout undecided clusters v ≡ true
+asks-pair layout undecided clusters v there =
+    or_left ((v == 1) || is_among undecided v) (list_any (λ cluster. is_among (classes_of layout cluster) v) clusters)
+    (or_right (v == 1) (is_among undecided v) there)
+
+pub asks-class : (layout : LayoutView) (undecided clusters : List ℕ) (c v : ℕ) → is_among clusters c ≡ true → is_among (classes_of layout c) v ≡ true
+    → may_ask layout undecided clusters v ≡ true
+asks-class layout undecided clusters c v there class =
+    let has : ℕ → Bool = λ cluster. is_among (classes_of layout cluster) v in
+    let place = from-any c clusters there in
+    or_right ((v == 1) || is_among undecided v) (list_any has clusters)
+    (list_any-from_Any has clusters (place.0, c, place.1, place.2, class))

@@ -1,17 +1,19 @@
 //! What is looked up for a claim on challenges: once for the claim, so that each test of it is a halving. A claim that is
-//! right lists nearly all that it must, so few clusters are left to be looked for in the installations that it names.
-ghost use Rattle.std.specs.Prelude.{◌≡◌, ◌==◌, ◌&&◌, ◌||◌, ◌↔◌, ℕ, Contains, IfOk, OnOk, filter, length, map, not};
-ghost use Rattle.std.specs.List.{list_any};
+//! right lists nearly all that it must, so few clusters are left to be looked for in the installations that it names. Of
+//! these the small ones come first: the smallest one tells which clusters may be used, where the group has no installation,
+//! and a large one is walked only for clusters that all smaller ones use.
+ghost use Rattle.std.specs.Prelude.{◌≡◌, ◌==◌, ◌&&◌, ◌↔◌, ℕ, true, Contains, IfOk, OnOk, filter, length, map, not};
 ghost use Rattle.dist_cert.specs.Rising.{AreRising, is_among};
-ghost use Rattle.dist_check_group.specs.Layout.{at_class, is_package, non_packages, used};
+ghost use Rattle.dist_check_group.specs.Layout.{at_class, used};
 ghost use Rattle.dist_check_group.specs.Window.{members_at};
-ghost use Rattle.dist_check_group.specs.Challenge.{first_used, is_held, is_used, use_each};
+ghost use Rattle.dist_check_group.specs.Challenge.{first_used, is_held, use_each};
 ghost use Rattle.dist_check_group.specs.MarksPrivate.{is_marked};
-ghost use Rattle.dist_check_group.specs.FoundPrivate.{FoundView, IsFoundFor, is_asked};
+ghost use Rattle.dist_check_group.specs.FoundPrivate.{FoundView, IsFoundFor, is_asked, may_ask};
 
 use crate::challenge::{ChallengeClaim, leaves_out};
 use crate::cover::used_by;
 use crate::group::Group;
+use crate::held::{Asked, held_by_one};
 use crate::layout::Layout;
 use crate::marks::Marks;
 use crate::numbers::{has, keep_common, put_in_order};
@@ -20,7 +22,8 @@ use crate::window::Window;
 use std::alloc::{AllocError, Global};
 use std::marker::Model;
 
-/// Clusters that all of a claim's installations use, what one of them holds, and the variables of the claim's pairs.
+/// Clusters that all of a claim's installations use, what one of them holds of the variables that a test may ask for, and the
+/// variables of the claim's pairs.
 #[derive(Drop)]
 pub(crate) struct Found {
     used: Vec<u32>,
@@ -51,7 +54,7 @@ impl Found {
     ) -> Result<Found, AllocError>
         ensures { IfOk result (IsFoundFor layout.now window.now group.now.cover claim.now.variable claim.now.named.now claim.now.by.now claim.now.undecided.now) }
     {
-        let named = each_once(alloc, claim.named)?;
+        let named = small_first(alloc, window, claim.named)?;
         let found = Found::by_names(alloc, layout, window, group, claim, &named);
         drop(named);
         found
@@ -69,8 +72,9 @@ impl Found {
         requires { (q : ℕ) → Contains named.now q ↔ Contains claim.now.named.now q }
         ensures { IfOk result (IsFoundFor layout.now window.now group.now.cover claim.now.variable claim.now.named.now claim.now.by.now claim.now.undecided.now) }
     {
-        let mut found = Found::listed(alloc, layout, window, group, claim, named)?;
-        match used_by_all(alloc, layout, window, group, &found, claim.variable, named) {
+        let first = first_used(alloc, layout, window, group, named)?;
+        let mut found = Found::listed(alloc, layout, window, group, claim, named, &first)?;
+        match used_by_all(alloc, layout, window, &found, claim.variable, named, first) {
             Ok(used) => {
                 found.set_used(used);
                 Ok(found)
@@ -82,7 +86,7 @@ impl Found {
         }
     }
 
-    /// The same without the clusters.
+    /// The same without the clusters, where those that all installations use are among the first ones.
     fn listed(
         alloc: Global,
         layout: &Layout,
@@ -90,14 +94,20 @@ impl Found {
         group: &Group,
         claim: &ChallengeClaim<'_>,
         named: &[u32],
+        first: &[u32],
     ) -> Result<Found, AllocError>
-        ensures held { IfOk result (λ found. (v : ℕ) → is_marked found.held v ≡ is_held layout.now window.now group.now.cover named.now v) }
+        ensures held { IfOk result (λ found. (v : ℕ) → may_ask layout.now found.undecided first.now v ≡ true
+            → is_marked found.held v ≡ is_held layout.now window.now group.now.cover named.now v) }
         ensures by { IfOk result (λ found. (v : ℕ) → is_among found.by v ≡ is_among (map (at_class layout.now) claim.now.by.now) v) }
         ensures undecided { IfOk result (λ found. (v : ℕ) → is_among found.undecided v ≡ is_among (map (at_class layout.now) claim.now.undecided.now) v) }
     {
         let by = variables_of(alloc, layout, claim.by)?;
         let undecided = variables_of(alloc, layout, claim.undecided)?;
-        let held = held_by_one(alloc, layout, window, group, named)?;
+        let asked = Asked {
+            undecided: &undecided,
+            clusters: first,
+        };
+        let held = held_by_one(alloc, layout, window, group, named, &asked)?;
         Ok(Found {
             used: Vec::new(alloc),
             held,
@@ -155,6 +165,15 @@ impl Found {
     {
         has(&self.undecided, variable)
     }
+}
+
+/// The installations that a claim names, each once, those of fewer members before those of more.
+fn small_first(alloc: Global, window: &Window, named: &[u32]) -> Result<Vec<u32>, AllocError>
+    ensures { IfOk result (λ sorted. (q : ℕ) → Contains sorted.items q ↔ Contains named.now q) }
+{
+    let mut sorted = each_once(alloc, named)?;
+    sorted.sort_unstable_by_key(|number| window.members(*number).len());
+    Ok(sorted)
 }
 
 /// Whether a test asks for a cluster.
@@ -225,78 +244,25 @@ fn first_used(
     }
 }
 
-/// The clusters that all of the claim's installations use, of those that a test asks for.
+/// Of the clusters that one of the claim's installations uses those that all of them use, and that a test asks for.
 fn used_by_all(
     alloc: Global,
     layout: &Layout,
     window: &Window,
-    group: &Group,
     found: &Found,
     variable: u32,
     named: &[u32],
+    first: Vec<u32>,
 ) -> Result<Vec<u32>, AllocError>
+    requires { AreRising first.items }
     ensures value { IfOk result (λ used. (c : ℕ) → is_among used.items c
-        ≡ (is_used layout.now window.now group.now.cover named.now c && is_asked layout.now found.now variable c)) }
+        ≡ ((is_among first.items c && use_each layout.now window.now named.now c) && is_asked layout.now found.now variable c)) }
     ensures rising { IfOk result (λ used. AreRising used.items) }
 {
-    let mut used = first_used(alloc, layout, window, group, named)?;
+    let mut used = first;
     keep_asked(layout, found, variable, &mut used);
     keep_used_by_each(alloc, layout, window, named, &mut used)?;
     Ok(used)
-}
-
-/// Marks a member, unless it is a package.
-fn mark(layout: &Layout, member: u32, held: &mut Marks) -> Result<(), AllocError>
-    ensures { OnOk result ((v : ℕ) → is_marked held.new v
-        ≡ (((v == member) && not (is_package layout.now member)) || is_marked held.old v)) }
-{
-    if layout.is_package(member) {
-        return Ok(());
-    }
-    held.add(member)?;
-    Ok(())
-}
-
-/// Marks the members of an installation that are no packages.
-fn mark_held(layout: &Layout, members: &[u32], held: &mut Marks) -> Result<(), AllocError>
-    ensures { OnOk result ((v : ℕ) → is_marked held.new v ≡ (is_marked held.old v || is_among (non_packages layout.now members.now) v)) }
-{
-    for member in members {
-        mark(layout, *member, held)?;
-    }
-    Ok(())
-}
-
-/// Marks what the installations that are named hold besides packages.
-fn mark_named(
-    layout: &Layout,
-    window: &Window,
-    named: &[u32],
-    held: &mut Marks,
-) -> Result<(), AllocError>
-    ensures { OnOk result ((v : ℕ) → is_marked held.new v
-        ≡ (is_marked held.old v || list_any (λ number. is_among (non_packages layout.now (members_at window.now number)) v) named.now)) }
-{
-    for number in named {
-        mark_held(layout, window.members(*number), held)?;
-    }
-    Ok(())
-}
-
-/// What one of the claim's installations holds besides packages. Each installation is named once.
-fn held_by_one(
-    alloc: Global,
-    layout: &Layout,
-    window: &Window,
-    group: &Group,
-    named: &[u32],
-) -> Result<Marks, AllocError>
-    ensures { IfOk result (λ held. (v : ℕ) → is_marked held v ≡ is_held layout.now window.now group.now.cover named.now v) }
-{
-    let mut held = Marks::new(alloc, layout.bound())?;
-    held.add_all(group.held())?;
-    mark_named(layout, window, named, &mut held)?;
-    Ok(held)
 }
 
 /// The variables that put the clusters of pairs at their classes.

@@ -2,8 +2,10 @@
 //! dependencies or on challenges.
 //!
 //! Installations are rising lists, looked up by halving; of what all of a claim's installations share only that is looked for
-//! which the claim does not list. A claim on challenges costs the members of its installations, its lists, the classes of the
-//! clusters that all of them use, and a bit for each variable: there is no other walk over all clusters, variables or packages.
+//! which the claim does not list. A claim on challenges costs its lists, the classes of the clusters that the group's
+//! installations use, or else the smallest one that it names, and a bit for each variable. Each one that it names costs its
+//! members, or a halving for each of these classes where they are far fewer. There is no other walk over all clusters,
+//! variables or packages, but for a cluster that is left: it is looked for among all members, in the small installations first.
 #![tactic(auto)]
 
 mod challenge;
@@ -11,6 +13,7 @@ mod closed;
 mod cover;
 mod found;
 mod group;
+mod held;
 mod layout;
 mod marks;
 mod number_set;

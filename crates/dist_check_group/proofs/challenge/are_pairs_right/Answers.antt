@@ -24,7 +24,7 @@ returns-then-are_closed c =
     = c.together-then-are_closed.ensures ∙ ap (λ (g : GroupView). g.undecided.together) c.group.view_is in (
       (λ is. record {
         names = has.0;
-        today = sym (c.requires.held_is 1) ∙ has.1;
+        today = sym c.requires.today_is ∙ has.1;
         rising = c.are_rising_pairs.ensures.0 c.if-not-are_rising_pairs.false;
         undecided_rising = c.are_rising_pairs-else-not-are_rising_pairs.ensures.0 c.if-not-are_rising_pairs-2.false;
         apart = sym (listed-is layout w c.args.group.now.cover claim.variable claim.named.now by undecided found c.requires by) ∙ sym c.is_any_undecided.ensures

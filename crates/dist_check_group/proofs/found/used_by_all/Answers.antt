@@ -1,7 +1,7 @@
 use Rattle.std.proofs.Common.{◌<◌, ◌∙◌, ◌&&◌, Bool, List, ℕ, ap, subst, sym}
 use Rattle.std.proofs.lemmas.List.Kept.{AllPairs-filter}
 use Rattle.dist_cert.specs.Rising.{AreRising, is_among}
-use Rattle.dist_check_group.specs.Challenge.{first_used, use_each}
+use Rattle.dist_check_group.specs.Challenge.{use_each}
 use Rattle.dist_check_group.specs.FoundPrivate.{is_asked}
 use Rattle.dist_check_group.proofs.CoverLemmas.{swap-last}
 use Rattle.dist_check_group.proofs.RuleLemmas.{among-filter}
@@ -10,7 +10,7 @@ use Rattle.dist_check_group.proofs.found.used_by_all.Goals as goal
 pub returns-clause-rising : goal.returns-clause-rising
 returns-clause-rising c =
     let asked : ℕ → Bool = is_asked c.args.layout.now c.args.found.now c.args.variable in
-    let first = subst AreRising (sym c.keep_asked.ensures) (AllPairs-filter (λ a b. a < b) asked c.in_ok-used.used.items c.in_ok-used.ensures.rising) in
+    let first = subst AreRising (sym c.keep_asked.ensures) (AllPairs-filter (λ a b. a < b) asked c.args.first.items c.requires) in
     subst AreRising (sym c.in_ok-keep_used_by_each.ensures)
     (AllPairs-filter (λ a b. a < b) (use_each c.args.layout.now c.args.window.now c.args.named.now) c.keep_asked.new.kept.items first)
 
@@ -19,10 +19,10 @@ returns-clause-value c = λ q.
     let layout = c.args.layout.now in
     let w = c.args.window.now in
     let named : List ℕ = c.args.named.now in
+    let first : List ℕ = c.args.first.items in
     let asked : ℕ → Bool = is_asked layout c.args.found.now c.args.variable in
     ap (λ (xs : List ℕ). is_among xs q) c.in_ok-keep_used_by_each.ensures
     ∙ among-filter (use_each layout w named) c.keep_asked.new.kept.items q
     ∙ ap (λ (b : Bool). b && use_each layout w named q)
-    (ap (λ (xs : List ℕ). is_among xs q) c.keep_asked.ensures ∙ among-filter asked c.in_ok-used.used.items q
-    ∙ ap (λ (b : Bool). b && asked q) (c.in_ok-used.ensures.value q))
-    ∙ swap-last (is_among (first_used layout w c.args.group.now.cover.used named) q) (asked q) (use_each layout w named q)
+    (ap (λ (xs : List ℕ). is_among xs q) c.keep_asked.ensures ∙ among-filter asked first q)
+    ∙ swap-last (is_among first q) (asked q) (use_each layout w named q)

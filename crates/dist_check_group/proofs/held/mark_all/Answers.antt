@@ -4,7 +4,7 @@ use Rattle.std.proofs.lemmas.List.{take_all}
 use Rattle.dist_check_group.specs.Layout.{is_package}
 use Rattle.dist_check_group.specs.MarksPrivate.{is_marked}
 use Rattle.dist_check_group.proofs.MarkLemmas.{held-any, marked-more, or-none}
-use Rattle.dist_check_group.proofs.found.mark_held.Goals as goal
+use Rattle.dist_check_group.proofs.held.mark_all.Goals as goal
 
 pub loop-member-init : goal.loop-member-init
 loop-member-init c = λ v. or-none (is_marked c.args.held.now v)

@@ -1,7 +1,7 @@
 use Rattle.std.proofs.Common.{◌∙◌, sym}
 use Rattle.dist_check_group.specs.MarksPrivate.{is_marked}
 use Rattle.dist_check_group.proofs.MarkLemmas.{is-held, not-held}
-use Rattle.dist_check_group.proofs.found.mark.Goals as goal
+use Rattle.dist_check_group.proofs.held.mark.Goals as goal
 
 pub returns-then-is_package : goal.returns-then-is_package
 returns-then-is_package c = λ v.

@@ -1,12 +1,13 @@
-use Rattle.std.proofs.Common.{◌≡◌, ◌||◌, ℕ, take}
+use Rattle.std.proofs.Common.{◌≡◌, ◌||◌, true, ℕ, take}
 use Rattle.std.specs.List.{list_any}
 use Rattle.dist_cert.specs.Rising.{is_among}
 use Rattle.dist_check_group.specs.Layout.{non_packages}
 use Rattle.dist_check_group.specs.Window.{members_at}
 use Rattle.dist_check_group.specs.MarksPrivate.{is_marked}
-use Rattle.dist_check_group.proofs.found.mark_named.Given as goal
+use Rattle.dist_check_group.specs.FoundPrivate.{may_ask}
+use Rattle.dist_check_group.proofs.held.mark_named.Given as goal
 
 abbrev pub invariant-loop-number : goal.invariant-loop-number
-invariant-loop-number l = (v : ℕ) → is_marked l.held v
+invariant-loop-number l = (v : ℕ) → may_ask l.layout l.asked.undecided.now l.asked.clusters.now v ≡ true → is_marked l.held v
     ≡ (is_marked l.initial.held v
     || list_any (λ number. is_among (non_packages l.layout (members_at l.window number)) v) (take l.number-index l.named))

@@ -6,25 +6,25 @@ use Rattle.dist_check_group.specs.Layout.{non_packages}
 use Rattle.dist_check_group.specs.Window.{members_at}
 use Rattle.dist_check_group.specs.MarksPrivate.{is_marked}
 use Rattle.dist_check_group.proofs.MarkLemmas.{named-more, or-none}
-use Rattle.dist_check_group.proofs.found.mark_named.Goals as goal
+use Rattle.dist_check_group.proofs.held.mark_named.Goals as goal
 
 pub loop-number-init : goal.loop-number-init
-loop-number-init c = λ v. or-none (is_marked c.args.held.now v)
+loop-number-init c = λ v may. or-none (is_marked c.args.held.now v)
 
 pub loop-number-preserved : goal.loop-number-preserved
-loop-number-preserved c = λ v.
+loop-number-preserved c = λ v may.
     let named : List ℕ = c.args.named.now in
     let i = c.loop-number.number-index in
     let layout = c.args.layout.now in
     let holds : ℕ → Bool = λ number. is_among (non_packages layout (members_at c.args.window.now number)) v in
-    c.in_ok-mark_held.ensures v
+    c.in_ok-mark_held.ensures v may
     ∙ ap (λ (xs : List ℕ). is_marked c.loop-number.held v || is_among (non_packages layout xs) v) c.members.ensures.value
-    ∙ ap (λ (b : Bool). b || holds (get_or named i 0)) (c.loop-number.invariant v)
+    ∙ ap (λ (b : Bool). b || holds (get_or named i 0)) (c.loop-number.invariant v may)
     ∙ named-more holds named i (is_marked c.args.held.now v) c.loop-number-test.true
 
 pub returns : goal.returns
-returns c = λ v.
-    c.loop-number.invariant v
+returns c = λ v may.
+    c.loop-number.invariant v may
     ∙ ap (λ (ns : List ℕ). is_marked c.args.held.now v
     || list_any (λ number. is_among (non_packages c.args.layout.now (members_at c.args.window.now number)) v) ns)
     (take_all c.loop-number.number-index c.args.named.now c.loop-number-test.false)

@@ -1,0 +1,11 @@
+use Rattle.std.proofs.Common.{◌≡◌, ◌&&◌, ◌||◌, ℕ, take}
+use Rattle.std.specs.List.{list_any}
+use Rattle.dist_cert.specs.Rising.{is_among}
+use Rattle.dist_check_group.specs.Layout.{classes_of, non_packages}
+use Rattle.dist_check_group.specs.MarksPrivate.{is_marked}
+use Rattle.dist_check_group.proofs.held.mark_classes.Given as goal
+
+abbrev pub invariant-loop-cluster : goal.invariant-loop-cluster
+invariant-loop-cluster l = (v : ℕ) → is_marked l.held v
+    ≡ (is_marked l.initial.held v
+    || (list_any (λ n. is_among (classes_of l.layout n) v) (take l.cluster-index l.clusters) && is_among (non_packages l.layout l.members) v))
