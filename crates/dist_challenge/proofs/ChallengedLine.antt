@@ -21,6 +21,7 @@ use Rattle.dist_cert.specs.Groups.{claim_count, group, installation_at, installa
 use Rattle.dist_cert.specs.LineRules.{HasRecordFault}
 use Rattle.dist_cert.specs.Part.{NamesFew, Strikes}
 use Rattle.dist_cert.specs.PartByRecordsLaws.{IsLine}
+use Rattle.dist_cert.specs.Rising.{AreRising}
 use Rattle.dist_space.specs.Space.{IsMeaning, IsSpace, SpaceView, variable_of}
 use Rattle.dist_space.specs.ClusterLaws.{placed-in}
 use Rattle.dist_space.specs.VariableLaws.{place-at, variable-range}
@@ -31,14 +32,15 @@ use Rattle.dist_sweep.specs.ClaimLinesLaws.{IsClaimLine, next-claim}
 use Rattle.dist_sweep.specs.LineLaws.{no-future, none-in, plains-small}
 use Rattle.dist_sweep.specs.Script.{Setting, matter_in}
 use Rattle.dist_sweep.specs.Window.{IsWindowAt, WindowView}
-use Rattle.dist_challenge.specs.GroupPrivate.{AreFew, GroupView, IsGroupAt, IsNameable, Struck, challenged_line, names_of, together}
-use Rattle.dist_challenge.specs.CoverPrivate.{IsPairVariable}
-use Rattle.dist_challenge.specs.FuturesPrivate.{IsOfSpace}
-use Rattle.dist_challenge.specs.UsedPrivate.{AreSmallPairs, pair_at}
+use Rattle.dist_challenge.specs.GroupPrivate.{AreFew, CoversRest, IsGroupAt, IsNameable, Struck, challenged_line, names_of, together}
+use Rattle.dist_covering.specs.Group.{GroupView}
+use Rattle.dist_covering.specs.OpenPairs.{IsPairVariable}
+use Rattle.dist_sweep.specs.Futures.{IsOfSpace}
+use Rattle.dist_covering.specs.Used.{pair_at}
+use Rattle.dist_challenge.specs.GroupPrivate.{AreSmallPairs}
 use Rattle.dist_challenge.proofs.GroupLines.{group-few, latest-of}
-use Rattle.dist_challenge.proofs.PairOrder.{pair-below, variable-pair}
-use Rattle.dist_challenge.proofs.Spaces.{packages-are, present-is}
-use Rattle.dist_challenge.proofs.UsedSteps.{in-own, means}
+use Rattle.dist_covering.specs.PairLaws.{pair-below, variable-pair, in-own, means}
+use Rattle.dist_sweep.specs.FuturesLaws.{packages-are, present-is}
 
 -- what dist_subject says of the pairs of a space
 abbrev pub PairsLaw : Type 0
@@ -263,7 +265,7 @@ one-variable s own a b space v u same =
 
 module _ (law : PairsLaw) (g : Setting) (before : List CertRecord) (w : WindowView) (s : SpaceView) (group_is : GroupView)
     (of : IsOfSpace kinds.Challenged s g) (space : IsSpace s) (from : 1 ≤ group_is.claimed) (at : IsWindowAt before w)
-    (kept : IsGroupAt g before s group_is) where
+    (kept : IsGroupAt g before s group_is) (covers : CoversRest g before s group_is) (rising : AreRising group_is.refuted × AreRising group_is.undecided) where
   same-present : (matter_in g).present group_is.claimed ≡ group_is.present
   same-present = present-is kinds.Challenged s g of group_is.claimed ∙ sym kept.present
 
@@ -280,8 +282,8 @@ module _ (law : PairsLaw) (g : Setting) (before : List CertRecord) (w : WindowVi
     today = some-named before w group_is.named ((matter_in g).present group_is.claimed) (λ m. Contains m 1)
         (subst (λ (v : ℕ). SomeInstallation before group_is.named v (λ m. Contains m 1)) (sym same-present) kept.today);
     rising = (
-      pairs-map s (slice_index s.cluster_of (group_is.claimed - 1)) group_is.refuted space kept.pairs.1 kept.rising.0,
-      pairs-map s (slice_index s.cluster_of (group_is.claimed - 1)) group_is.undecided space kept.pairs.2 kept.rising.1,
+      pairs-map s (slice_index s.cluster_of (group_is.claimed - 1)) group_is.refuted space kept.pairs.1 rising.0,
+      pairs-map s (slice_index s.cluster_of (group_is.claimed - 1)) group_is.undecided space kept.pairs.2 rising.1,
     );
     apart = All-map (λ (pair : ℕ × ℕ). ¬ Contains (map (pair_at s) group_is.undecided) pair) (pair_at s) group_is.refuted
         (λ k d within there.
@@ -321,7 +323,7 @@ module _ (law : PairsLaw) (g : Setting) (before : List CertRecord) (w : WindowVi
       let v = pair-variable law g s of space group_is.claimed omits.0 from kept.upto omits.1 in
       omits.3 (some-named before w group_is.named ((matter_in g).present group_is.claimed) (Covers (matter_in g) omits.0)
       (subst (λ (p : ℕ × ℕ). IsCovered (matter_in g) before group_is.claimed group_is.named p) v.is
-      (kept.rest v.at v.variable
+      (covers v.at v.variable
       (λ there. nothing v.at (subst (λ (xs : List ℕ). Contains xs v.at) done there))
       (λ there. omits.2 (subst (λ (p : ℕ × ℕ). Contains (map (pair_at s) group_is.refuted ++ map (pair_at s) group_is.undecided) p) v.is
       (Contains-append_left (map (pair_at s) group_is.refuted) (map (pair_at s) group_is.undecided) (pair_at s v.at) (in-map s group_is.refuted v.at there))))
@@ -351,11 +353,12 @@ pair-words-small (pair ∷ pairs) all =
     (pair-words-small pairs (All-tail (λ (p : ℕ × ℕ). IsSmall p.0 × IsSmall p.1) pair pairs all))
 
 pub challenged-next : PairsLaw → (g : Setting) (before : List CertRecord) (w : WindowView) (s : SpaceView) (group_is : GroupView)
-    → IsOfSpace kinds.Challenged s g → IsSpace s → 1 ≤ group_is.claimed → IsWindowAt before w → IsGroupAt g before s group_is → group_is.left ≡ []
+    → IsOfSpace kinds.Challenged s g → IsSpace s → 1 ≤ group_is.claimed → IsWindowAt before w → IsGroupAt g before s group_is → CoversRest g before s group_is
+    → AreRising group_is.refuted × AreRising group_is.undecided → group_is.left ≡ []
     → list_any is_end before ≡ false → length s.repository.packages < 2 ^ 32 → w.count < 2 ^ 32
     → AreSmallPairs (map (pair_at s) group_is.refuted) → AreSmallPairs (map (pair_at s) group_is.undecided)
     → IsLine (matter_in g) g.header before (challenged_line s w group_is)
-challenged-next law g before w s group_is of space from at kept done going fits small by und = record {
+challenged-next law g before w s group_is of space from at kept covers rising done going fits small by und = record {
   form = record {
     text = refl;
     rules = (
@@ -390,7 +393,7 @@ challenged-next law g before w s group_is of space from at kept done going fits 
   where
     rules : HoldsChallenged (matter_in g) before group_is.claimed (names_of w group_is.named) (map (pair_at s) group_is.refuted)
         (map (pair_at s) group_is.undecided)
-    rules = holds-challenged law g before w s group_is of space from at kept
+    rules = holds-challenged law g before w s group_is of space from at kept covers rising
 
     upto-named : All (λ n. n ≤ w.count) (names_of w group_is.named)
     upto-named k d within = let recent = (rules.names k d within).0.1 in omega (arith, recent, at.count)
@@ -402,7 +405,7 @@ challenged-next law g before w s group_is of space from at kept done going fits 
     none causes.UnknownLine f = none-in _ f
     none causes.NotAFuture f = no-future (matter_in g) g.header.kind (challenged_line s w group_is) refl f
     none causes.WrongClaim f = f.1 (subst (λ (k : CertKind). HoldsClaim (matter_in g) k before (challenged_line s w group_is)) (sym of.kind_is) rules)
-    none causes.Incomplete f = omits-none law g before w s group_is of space from at kept done f
+    none causes.Incomplete f = omits-none law g before w s group_is of space from at kept covers rising done f
     none cause f = f
 
 pub challenged-kind : (s : SpaceView) (w : WindowView) (group_is : GroupView) → IsClaimLine (challenged_line s w group_is)

@@ -1,6 +1,5 @@
 -- The pairs that installations cover, in the words of certificates.
-use Rattle.std.proofs.Common.{◌≡◌, ◌||◌, ◌↔◌, ⊎_elim, inl, inr, ℕ, zero, suc, ◌+◌, ◌-◌, ◌<◌, Bool, true, false, not, List, [], ◌∷◌, ◌++◌}
-use Rattle.std.proofs.Common.{length, get_or}
+use Rattle.std.proofs.Common.{◌≡◌, ◌||◌, ◌↔◌, ⊎_elim, inl, inr, ℕ, zero, suc, ◌+◌, ◌-◌, ◌<◌, Bool, true, false, not, List, [], ◌∷◌, ◌++◌, length, get_or}
 use Rattle.std.proofs.Common.{map, drop, refl, ap, sym, subst, ◌∙◌, arith, ext_get_or}
 use Rattle.std.specs.List.{All, AllZip, Any, Contains}
 use Rattle.std.proofs.lemmas.Bool.{true≢false, false≢true, or_parts}
@@ -28,12 +27,12 @@ use Rattle.dist_sweep.specs.TrueOnesLaws.{true-ones}
 use Rattle.dist_sweep.specs.Window.{IsWindowAt, WindowView, kept_at}
 use Rattle.dist_sweep.specs.WindowLaws.{IsIn, installation-is, keep-push, sized}
 use Rattle.dist_sweep.specs.Words.{true_variables}
-use Rattle.dist_challenge.specs.ChallengedPrivate.{AreUsed, AreUses, ChallengedView}
-use Rattle.dist_challenge.specs.CoverPrivate.{IsKept, IsPairVariable, covered_by, is_covered, used_by}
-use Rattle.dist_challenge.specs.FuturesPrivate.{IsOfSpace}
-use Rattle.dist_challenge.specs.UsedPrivate.{pair_at}
-use Rattle.dist_challenge.proofs.PairOrder.{variable-pair}
-use Rattle.dist_challenge.proofs.UsedSteps.{means}
+use Rattle.dist_covering.specs.Covering.{CoveringView}
+use Rattle.dist_covering.specs.Used.{AreUsed, AreUses}
+use Rattle.dist_covering.specs.OpenPairs.{IsKept, IsPairVariable, covered_by, is_covered, used_by}
+use Rattle.dist_sweep.specs.Futures.{IsOfSpace}
+use Rattle.dist_covering.specs.Used.{pair_at}
+use Rattle.dist_covering.specs.PairLaws.{variable-pair, means}
 
 -- what dist_subject says of the pairs of a space
 abbrev pub CoveredLaw : Type 0
@@ -114,7 +113,7 @@ kept-size before w number at kept =
     let inside = kept-in before w number at kept in
     at.sizes (number - (w.count - length w.kept + 1)) [] (omega (arith, inside.low, inside.high))
 
-pub kept-used : (before : List CertRecord) (w : WindowView) (c : ChallengedView) (number : ℕ) → IsWindowAt before w → w.variables ≡ length c.space.meanings
+pub kept-used : (before : List CertRecord) (w : WindowView) (c : CoveringView) (number : ℕ) → IsWindowAt before w → w.variables ≡ length c.space.meanings
     → AreUses c.space (keep_last REACH (installations before)) c.uses → IsKept w number → AreUsed c.space (kept_at w number) (used_by c w number)
 kept-used before w c number at variables uses kept =
     let inside = kept-in before w number at kept in
@@ -129,14 +128,14 @@ kept-used before w c number at variables uses kept =
     ∙ truth-true (length c.space.meanings) (kept_at w number) (kept-size before w number at kept ∙ variables)) one
 
 -- what is kept, as the lines have it
-pub record Kept (g : Setting) (before : List CertRecord) (w : WindowView) (c : ChallengedView) : Type 0 where
+pub record Kept (g : Setting) (before : List CertRecord) (w : WindowView) (c : CoveringView) : Type 0 where
   pub of_space : IsOfSpace kinds.Challenged c.space g
   pub space : IsSpace c.space
   pub window : IsWindowAt before w
   pub variables : w.variables ≡ length c.space.meanings
   pub uses : AreUses c.space (keep_last REACH (installations before)) c.uses
 
-pub kept-covers : CoveredLaw → (g : Setting) (before : List CertRecord) (w : WindowView) (c : ChallengedView) (own number at : ℕ) → Kept g before w c
+pub kept-covers : CoveredLaw → (g : Setting) (before : List CertRecord) (w : WindowView) (c : CoveringView) (own number at : ℕ) → Kept g before w c
     → IsKept w number → IsPairVariable c.space own at
     → (covered_by c w number at ≡ true) ↔ Covers (matter_in g) (pair_at c.space at) (installation_at before number)
 kept-covers law g before w c own number at all kept variable =
@@ -151,7 +150,7 @@ kept-covers law g before w c own number at all kept variable =
 abbrev pub CoversBy : Setting → List CertRecord → SpaceView → (at number : ℕ) → Type 0
 CoversBy g before s at number = Covers (matter_in g) (pair_at s at) (installation_at before number)
 
-pub some-covers : CoveredLaw → (g : Setting) (before : List CertRecord) (w : WindowView) (c : ChallengedView) (own at : ℕ) → Kept g before w c
+pub some-covers : CoveredLaw → (g : Setting) (before : List CertRecord) (w : WindowView) (c : CoveringView) (own at : ℕ) → Kept g before w c
     → IsPairVariable c.space own at → (numbers : List ℕ) → All (IsKept w) numbers → is_covered c w numbers at ≡ true
     → Any (CoversBy g before c.space at) numbers
 some-covers law g before w c own at all variable [] kept holds = absurd (false≢true holds)
@@ -164,7 +163,7 @@ some-covers law g before w c own at all variable (n ∷ numbers) kept holds =
         ((kept-covers law g before w c own n at all (All-head (IsKept w) n numbers kept) variable).0 is)
     by rest false is some = any-later (CoversBy g before c.space at) n numbers (rest some)
 
-pub none-covers : CoveredLaw → (g : Setting) (before : List CertRecord) (w : WindowView) (c : ChallengedView) (own at : ℕ) → Kept g before w c
+pub none-covers : CoveredLaw → (g : Setting) (before : List CertRecord) (w : WindowView) (c : CoveringView) (own at : ℕ) → Kept g before w c
     → IsPairVariable c.space own at → (numbers : List ℕ) → All (IsKept w) numbers → is_covered c w numbers at ≡ false
     → ¬ Any (CoversBy g before c.space at) numbers
 none-covers law g before w c own at all variable [] kept lacks any = omega (arith, any.2)

@@ -119,7 +119,7 @@ some-back P all own members named variable inside (inr any) =
 
 -- ---- the latest installation is of the group
 
-group-ends : (lines : List CertRecord) → (front : List CertRecord) × (lines ≡ front ++ group lines)
+pub group-ends : (lines : List CertRecord) → (front : List CertRecord) × (lines ≡ front ++ group lines)
 group-ends [] = ([], refl)
 group-ends (s ∷ lines) = by (list_any is_claim (s ∷ lines)) (group-ends lines)
   where

@@ -1,10 +1,10 @@
 -- What the lines of a question for a pair make of what is kept of a group.
-use Rattle.std.proofs.Common.{◌≡◌, ◌⊎◌, ⊎_elim, inl, inr, ℕ, ◌+◌, ◌-◌, ◌<◌, ◌≤◌, Bool, true, false, not, List, [], ◌∷◌, ◌++◌, length, get_or}
+use Rattle.std.proofs.Common.{◌≡◌, ◌≢◌, ◌⊎◌, ⊎_elim, inl, inr, ℕ, ◌+◌, ◌-◌, ◌<◌, ◌≤◌, Bool, true, false, not, List, [], ◌∷◌, ◌++◌, length, get_or}
 use Rattle.std.proofs.Common.{filter, refl, ap, sym, subst, ◌∙◌, arith, append-nil, length-append}
-use Rattle.std.specs.List.{All, AllPairs, Contains}
+use Rattle.std.specs.List.{All, AllPairs, Any, Contains}
 use Rattle.std.specs.Prelude.{slice_index, slice_index_or}
 use Rattle.std.proofs.lemmas.Bool.{true≢false}
-use Rattle.std.proofs.lemmas.List.{get_or_append_left, get_or_at}
+use Rattle.std.proofs.lemmas.List.{get_or_append_left, get_or_at, get_or_default}
 use Rattle.std.proofs.lemmas.List.Elements.{All-contains, All-filter, All-push, All-weaker, Contains-append_left, Contains-push}
 use Rattle.std.proofs.lemmas.List.Elements.{Contains-push_cases, filter_passes}
 use Rattle.std.proofs.lemmas.List.Kept.{AllPairs-filter}
@@ -18,13 +18,14 @@ use Rattle.dist_cert.specs.Groups.{group, installation_at, installations, IsClos
 use Rattle.dist_space.specs.Space.{SpaceView}
 use Rattle.dist_sweep.specs.QuestionLinesLaws.{questions-of, AreAsked, group-after, count-after, in-group-after, closed-after, closed-here, installed-after}
 use Rattle.dist_sweep.specs.Script.{Setting, matter_in}
-use Rattle.dist_challenge.specs.GroupPrivate.{AreFew, GroupView, IsGroupAt, IsNameable, together}
-use Rattle.dist_challenge.specs.CoverPrivate.{IsPairVariable}
-use Rattle.dist_challenge.specs.FuturesPrivate.{IsOfSpace}
-use Rattle.dist_challenge.specs.UsedPrivate.{pair_at}
-use Rattle.dist_challenge.proofs.CoverSteps.{filter-few, filter-in, in-filter, not-false, not-true, pairs-push}
-use Rattle.dist_challenge.proofs.GroupLines.{SomeOf, some-back, some-more, some-new}
-use Rattle.dist_challenge.proofs.Spaces.{present-is}
+use Rattle.dist_challenge.specs.GroupPrivate.{AreFew, CoversOwn, CoversRest, EachAnswered, IsGroupAt, IsNameable, together}
+use Rattle.dist_covering.specs.Group.{GroupView}
+use Rattle.dist_covering.specs.OpenPairs.{IsPairVariable}
+use Rattle.dist_sweep.specs.Futures.{IsOfSpace}
+use Rattle.dist_covering.specs.Used.{pair_at}
+use Rattle.dist_covering.specs.ListLaws.{filter-few, filter-in, in-filter, not-false, not-true}
+use Rattle.dist_challenge.proofs.GroupLines.{SomeOf, any-append-left, any-append-right, some-back, some-more, some-new}
+use Rattle.dist_sweep.specs.FuturesLaws.{present-is}
 
 -- the group with one pair more that is left
 abbrev pub with_left : GroupView → ℕ → GroupView
@@ -43,6 +44,14 @@ words-of step = []
 same-second : (v at other : ℕ) → Question (together v at) ≡ Question (together v other) → at ≡ other
 unfolding second-of words-of
 same-second v at other e = ap (λ (s : CertRecord). second-of (words-of s)) e
+
+first-of : List Word → ℕ
+first-of (v ∷ words) = v.0
+first-of words = 0
+
+pub same-first : (v at w other : ℕ) → Question (together v at) ≡ Question (together w other) → v ≡ w
+unfolding first-of words-of
+same-first v at w other e = ap (λ (s : CertRecord). first-of (words-of s)) e
 
 asked-after : (before : List CertRecord) (v at other : ℕ) (installed : List (List ℕ)) (after : List CertRecord)
     → AreAsked before (together v at) installed after
@@ -75,15 +84,17 @@ pairs-last {X} R xs y pairs k d within =
 not-among : (xs : List ℕ) (n : ℕ) → All (λ x. n < x) xs → ¬ Contains xs n
 not-among xs n above there = let less = All-contains (λ x. n < x) xs n above there in omega (arith, less)
 
-not-above : (xs : List ℕ) (n : ℕ) → All (λ x. x < n) xs → ¬ Contains xs n
-not-above xs n below there = let less = All-contains (λ x. x < n) xs n below there in omega (arith, less)
+-- the pairs that are left are none of those that were asked for, of which the last one is one now
+still-apart : (left : List ℕ) (xs : List ℕ) (at : ℕ) → All (λ next. at < next) left → All (λ a. ¬ Contains xs a) left
+    → All (λ a. ¬ Contains (xs ++ at ∷ []) a) left
+still-apart left xs at above apart k d within there = ⊎_elim (apart k d within)
+    (λ same. let less = above k d within in omega (arith, less, same)) (Contains-push_cases xs at (get_or left k d) there)
 
 -- what is known of the last pair
 pub record LastPair (s : SpaceView) (g : Setting) (before : List CertRecord) (group : GroupView) (at : ℕ) : Type 0 where
   pub variable : IsPairVariable s (slice_index s.cluster_of (group.claimed - 1)) at
   pub above : All (λ next. at < next) group.left
-  pub refuted : All (λ other. other < at) group.refuted
-  pub undecided : All (λ other. other < at) group.undecided
+  pub apart : (¬ Contains group.refuted at) × (¬ Contains group.undecided at)
   pub uncovered : ¬ IsCovered (matter_in g) before group.claimed group.named (pair_at s at)
 
 last-pair : (s : SpaceView) (g : Setting) (before : List CertRecord) (group : GroupView) (at : ℕ) → IsGroupAt g before s (with_left group at)
@@ -91,8 +102,7 @@ last-pair : (s : SpaceView) (g : Setting) (before : List CertRecord) (group : Gr
 last-pair s g before group at kept = record {
   variable = all-last (IsPairVariable s (slice_index s.cluster_of (group.claimed - 1))) group.left at kept.pairs.0;
   above = pairs-last (λ a b. b < a) group.left at kept.falling;
-  refuted = λ k d within. all-last (λ next. get_or group.refuted k d < next) group.left at (kept.below.0 k d within);
-  undecided = λ k d within. all-last (λ next. get_or group.undecided k d < next) group.left at (kept.below.1 k d within);
+  apart = all-last (λ a. (¬ Contains group.refuted a) × (¬ Contains group.undecided a)) group.left at kept.left_apart;
   uncovered = all-last (λ a. ¬ IsCovered (matter_in g) before group.claimed group.named (pair_at s a)) group.left at kept.uncovered.0;
 }
 
@@ -149,13 +159,11 @@ refuted-step g s before after group_is at hints kept asked is = record {
   few = few-again g before after (together group_is.present at) asked s (slice_index s.cluster_of (group_is.claimed - 1)) group_is.present group_is.named
       kept.few;
   falling = pairs-front (λ a b. b < a) group_is.left at kept.falling;
-  rising = (pairs-push (λ a b. a < b) group_is.refuted at kept.rising.0 last.refuted, kept.rising.1);
-  below = (
-    All-push (λ a. All (λ next. a < next) group_is.left) group_is.refuted at
-        (λ k d within. all-left (λ next. get_or group_is.refuted k d < next) group_is.left at (kept.below.0 k d within)) last.above,
-    λ k d within. all-left (λ next. get_or group_is.undecided k d < next) group_is.left at (kept.below.1 k d within),
+  apart = All-push (λ a. ¬ Contains group_is.undecided a) group_is.refuted at kept.apart last.apart.1;
+  left_apart = λ k d within. (
+    still-apart group_is.left group_is.refuted at last.above (λ j e short. (left-apart j e short).0) k d within,
+    (left-apart k d within).1,
   );
-  apart = All-push (λ a. ¬ Contains group_is.undecided a) group_is.refuted at kept.apart (not-above group_is.undecided at last.undecided);
   pairs = (
     all-left (IsPairVariable s (slice_index s.cluster_of (group_is.claimed - 1))) group_is.left at kept.pairs.0,
     All-push (IsPairVariable s (slice_index s.cluster_of (group_is.claimed - 1))) group_is.refuted at kept.pairs.1 last.variable,
@@ -181,13 +189,6 @@ refuted-step g s before after group_is at hints kept asked is = record {
         k d within (back (get_or group_is.left k d) covered)),
     λ k d within covered. kept.uncovered.1 k d within (back (get_or group_is.undecided k d) covered),
   );
-  rest = λ a variable not_left not_refuted not_undecided.
-      some-again g before after (together group_is.present at) asked (Covers (matter_in g) (pair_at s a)) group_is.named
-      ((matter_in g).present group_is.claimed)
-      (kept.rest a variable
-      (λ there. ⊎_elim not_left (λ same. not_refuted (subst (λ (n : ℕ). Contains (group_is.refuted ++ at ∷ []) n) same (Contains-push group_is.refuted at)))
-      (Contains-push_cases group_is.left at a there))
-      (λ there. not_refuted (Contains-append_left group_is.refuted (at ∷ []) a there)) not_undecided);
   asked = λ a there left. ⊎_elim
       (λ old. kept.asked a old (Contains-append_left group_is.left (at ∷ []) a left))
       (λ same. not-among group_is.left at last.above (subst (λ (n : ℕ). Contains group_is.left n) (sym same) left))
@@ -196,6 +197,9 @@ refuted-step g s before after group_is at hints kept asked is = record {
   where
     last : LastPair s g before group_is at
     last = last-pair s g before group_is at kept
+
+    left-apart : All (λ a. (¬ Contains group_is.refuted a) × (¬ Contains group_is.undecided a)) group_is.left
+    left-apart = all-left (λ a. (¬ Contains group_is.refuted a) × (¬ Contains group_is.undecided a)) group_is.left at kept.left_apart
 
     back : (a : ℕ) → IsCovered (matter_in g) after group_is.claimed group_is.named (pair_at s a)
         → IsCovered (matter_in g) before group_is.claimed group_is.named (pair_at s a)
@@ -220,15 +224,13 @@ undecided-step g s before after group_is at kept asked is = record {
   few = few-again g before after (together group_is.present at) asked s (slice_index s.cluster_of (group_is.claimed - 1)) group_is.present group_is.named
       kept.few;
   falling = pairs-front (λ a b. b < a) group_is.left at kept.falling;
-  rising = (kept.rising.0, pairs-push (λ a b. a < b) group_is.undecided at kept.rising.1 last.undecided);
-  below = (
-    (λ k d within. all-left (λ next. get_or group_is.refuted k d < next) group_is.left at (kept.below.0 k d within)),
-    All-push (λ a. All (λ next. a < next) group_is.left) group_is.undecided at
-        (λ k d within. all-left (λ next. get_or group_is.undecided k d < next) group_is.left at (kept.below.1 k d within)) last.above,
-  );
   apart = λ k d within there. ⊎_elim (kept.apart k d within)
-      (λ same. let less = last.refuted k d within in omega (arith, less, same))
+      (λ same. last.apart.0 (k, within, get_or_default group_is.refuted k at d within ∙ sym same))
       (Contains-push_cases group_is.undecided at (get_or group_is.refuted k d) there);
+  left_apart = λ k d within. (
+    (left-apart k d within).0,
+    still-apart group_is.left group_is.undecided at last.above (λ j e short. (left-apart j e short).1) k d within,
+  );
   pairs = (
     all-left (IsPairVariable s (slice_index s.cluster_of (group_is.claimed - 1))) group_is.left at kept.pairs.0,
     kept.pairs.1,
@@ -249,14 +251,6 @@ undecided-step g s before after group_is at kept asked is = record {
     All-push (λ a. ¬ IsCovered (matter_in g) after group_is.claimed group_is.named (pair_at s a)) group_is.undecided at
         (λ k d within covered. kept.uncovered.1 k d within (back (get_or group_is.undecided k d) covered)) (λ covered. last.uncovered (back at covered)),
   );
-  rest = λ a variable not_left not_refuted not_undecided.
-      some-again g before after (together group_is.present at) asked (Covers (matter_in g) (pair_at s a)) group_is.named
-      ((matter_in g).present group_is.claimed)
-      (kept.rest a variable
-      (λ there. ⊎_elim not_left (λ same. not_undecided (subst (λ (n : ℕ). Contains (group_is.undecided ++ at ∷ []) n) same
-      (Contains-push group_is.undecided at)))
-      (Contains-push_cases group_is.left at a there))
-      not_refuted (λ there. not_undecided (Contains-append_left group_is.undecided (at ∷ []) a there)));
   asked = λ a there left. ⊎_elim
       (λ old. kept.asked a old (Contains-append_left group_is.left (at ∷ []) a left))
       (λ same. not-among group_is.left at last.above (subst (λ (n : ℕ). Contains group_is.left n) (sym same) left))
@@ -265,6 +259,9 @@ undecided-step g s before after group_is at kept asked is = record {
   where
     last : LastPair s g before group_is at
     last = last-pair s g before group_is at kept
+
+    left-apart : All (λ a. (¬ Contains group_is.refuted a) × (¬ Contains group_is.undecided a)) group_is.left
+    left-apart = all-left (λ a. (¬ Contains group_is.refuted a) × (¬ Contains group_is.undecided a)) group_is.left at kept.left_apart
 
     back : (a : ℕ) → IsCovered (matter_in g) after group_is.claimed group_is.named (pair_at s a)
         → IsCovered (matter_in g) before group_is.claimed group_is.named (pair_at s a)
@@ -348,15 +345,13 @@ found-step g s before after group_is at members covers of kept asked has to from
       (few-more g s own group_is.present (installations before) (installations (group before)) members group_is.named at inside kept.few last.variable
       (to at last.variable itself) not-today));
   falling = AllPairs-filter (λ a b. b < a) (λ a. not (covers a)) group_is.left (pairs-front (λ a b. b < a) group_is.left at kept.falling);
-  rising = (kept.rising.0, AllPairs-filter (λ a b. a < b) (λ a. not (covers a)) group_is.undecided kept.rising.1);
-  below = (
-    (λ k d within. All-filter (λ a. not (covers a)) (λ next. get_or group_is.refuted k d < next) group_is.left
-        (all-left (λ next. get_or group_is.refuted k d < next) group_is.left at (kept.below.0 k d within))),
-    All-filter (λ a. not (covers a)) (λ a. All (λ next. a < next) (filter (λ b. not (covers b)) group_is.left)) group_is.undecided
-        (λ k d within. All-filter (λ a. not (covers a)) (λ next. get_or group_is.undecided k d < next) group_is.left
-        (all-left (λ next. get_or group_is.undecided k d < next) group_is.left at (kept.below.1 k d within))),
-  );
   apart = λ k d within there. kept.apart k d within (filter-in (λ a. not (covers a)) group_is.undecided (get_or group_is.refuted k d) there);
+  left_apart = λ k d within.
+      let old = All-filter (λ a. not (covers a)) (λ a. (¬ Contains group_is.refuted a) × (¬ Contains group_is.undecided a)) group_is.left
+      (all-left (λ a. (¬ Contains group_is.refuted a) × (¬ Contains group_is.undecided a)) group_is.left at kept.left_apart) k d within in (
+        old.0,
+        λ there. old.1 (filter-in (λ a. not (covers a)) group_is.undecided (get_or (filter (λ a. not (covers a)) group_is.left) k d) there),
+      );
   pairs = (
     All-filter (λ a. not (covers a)) (IsPairVariable s (slice_index s.cluster_of (group_is.claimed - 1))) group_is.left
         (all-left (IsPairVariable s (slice_index s.cluster_of (group_is.claimed - 1))) group_is.left at kept.pairs.0),
@@ -388,7 +383,6 @@ found-step g s before after group_is at members covers of kept asked has to from
         kept.uncovered.1 k d within in
         back a variable (not-true (covers a) (filter_passes (λ b. not (covers b)) group_is.undecided k d within)) none covered,
   );
-  rest = λ a variable not_left not_refuted not_undecided. rest a variable not_left not_refuted not_undecided (covers a) refl;
   asked = λ a there left. ⊎_elim
       (λ old. kept.asked a old (Contains-append_left group_is.left (at ∷ []) a (filter-in (λ b. not (covers b)) group_is.left a left)))
       (λ same. not-among group_is.left at last.above
@@ -451,22 +445,136 @@ found-step g s before after group_is at members covers of kept asked has to from
         (subst (λ (all : List (List ℕ)). SomeOf all (installations (group after)) group_is.named ((matter_in g).present group_is.claimed)
         (Covers (matter_in g) (pair_at s a))) all_is covered)))
 
-    rest : (a : ℕ) → IsPairVariable s (slice_index s.cluster_of (group_is.claimed - 1)) a → ¬ Contains (filter (λ b. not (covers b)) group_is.left) a
-        → ¬ Contains group_is.refuted a → ¬ Contains (filter (λ b. not (covers b)) group_is.undecided) a → (b : Bool) → covers a ≡ b
+-- ---- what the group says nothing of stays covered
+
+pub refuted-rest : (g : Setting) (s : SpaceView) (before after : List CertRecord) (group_is : GroupView) (at : ℕ)
+    → (asked : AreAsked before (together group_is.present at) [] after) → CoversRest g before s (with_left group_is at)
+    → CoversRest g after s (record group_is { refuted = group_is.refuted ++ at ∷ [] })
+refuted-rest g s before after group_is at asked covers a variable not_left not_refuted not_undecided =
+    some-again g before after (together group_is.present at) asked (Covers (matter_in g) (pair_at s a)) group_is.named
+    ((matter_in g).present group_is.claimed)
+    (covers a variable
+    (λ there. ⊎_elim not_left (λ same. not_refuted (subst (λ (n : ℕ). Contains (group_is.refuted ++ at ∷ []) n) same (Contains-push group_is.refuted at)))
+    (Contains-push_cases group_is.left at a there))
+    (λ there. not_refuted (Contains-append_left group_is.refuted (at ∷ []) a there)) not_undecided)
+
+pub undecided-rest : (g : Setting) (s : SpaceView) (before after : List CertRecord) (group_is : GroupView) (at : ℕ)
+    → (asked : AreAsked before (together group_is.present at) [] after) → CoversRest g before s (with_left group_is at)
+    → CoversRest g after s (record group_is { undecided = group_is.undecided ++ at ∷ [] })
+undecided-rest g s before after group_is at asked covers a variable not_left not_refuted not_undecided =
+    some-again g before after (together group_is.present at) asked (Covers (matter_in g) (pair_at s a)) group_is.named
+    ((matter_in g).present group_is.claimed)
+    (covers a variable
+    (λ there. ⊎_elim not_left (λ same. not_undecided (subst (λ (n : ℕ). Contains (group_is.undecided ++ at ∷ []) n) same
+    (Contains-push group_is.undecided at)))
+    (Contains-push_cases group_is.left at a there))
+    not_refuted (λ there. not_undecided (Contains-append_left group_is.undecided (at ∷ []) a there)))
+
+pub found-rest : (g : Setting) (s : SpaceView) (before after : List CertRecord) (group_is : GroupView) (at : ℕ) (members : List ℕ) (covers : ℕ → Bool)
+    → IsOfSpace kinds.Challenged s g → IsGroupAt g before s (with_left group_is at)
+    → AreAsked before (together group_is.present at) (members ∷ []) after → Contains members group_is.present
+    → ((a : ℕ) → IsPairVariable s (slice_index s.cluster_of (group_is.claimed - 1)) a → covers a ≡ true → Covers (matter_in g) (pair_at s a) members)
+    → covers at ≡ true → CoversRest g before s (with_left group_is at)
+    → CoversRest g after s (record group_is {
+      left = filter (λ a. not (covers a)) group_is.left;
+      undecided = filter (λ a. not (covers a)) group_is.undecided;
+    })
+found-rest g s before after group_is at members covers of kept asked has to itself rests a variable not_left not_refuted not_undecided =
+    rest (covers a) refl
+  where
+    own_is : installations (group after) ≡ installations (group before) ++ members ∷ []
+    own_is = in-group-after before (together group_is.present at) (members ∷ []) after asked
+
+    all_is : installations after ≡ installations before ++ members ∷ []
+    all_is = installed-after before (together group_is.present at) (members ∷ []) after asked
+
+    inside : All (λ n. (1 ≤ n) × (n ≤ length (installations before))) group_is.named
+    inside k d within = let name = kept.names k d within in (name.from_one, name.upto)
+
+    after-all : SomeOf (installations before ++ members ∷ []) (installations (group before) ++ members ∷ []) group_is.named
+        ((matter_in g).present group_is.claimed) (Covers (matter_in g) (pair_at s a))
         → IsCovered (matter_in g) after group_is.claimed group_is.named (pair_at s a)
-    rest a variable not_left not_refuted not_undecided true holds =
+    after-all some =
         subst (λ (all : List (List ℕ)). SomeOf all (installations (group after)) group_is.named ((matter_in g).present group_is.claimed)
         (Covers (matter_in g) (pair_at s a))) (sym all_is)
         (subst (λ (own : List (List ℕ)). SomeOf (installations before ++ members ∷ []) own group_is.named ((matter_in g).present group_is.claimed)
-        (Covers (matter_in g) (pair_at s a))) (sym own_is)
+        (Covers (matter_in g) (pair_at s a))) (sym own_is) some)
+
+    rest : (b : Bool) → covers a ≡ b → IsCovered (matter_in g) after group_is.claimed group_is.named (pair_at s a)
+    rest true holds = after-all
         (some-new (Covers (matter_in g) (pair_at s a)) (installations before) (installations (group before)) members group_is.named
         ((matter_in g).present group_is.claimed)
-        (subst (λ (v : ℕ). Contains members v) (kept.present ∙ sym (present-is kinds.Challenged s g of group_is.claimed)) has) (to a variable holds)))
-    rest a variable not_left not_refuted not_undecided false lacks =
-        more (Covers (matter_in g) (pair_at s a)) ((matter_in g).present group_is.claimed)
-        (kept.rest a variable
+        (subst (λ (v : ℕ). Contains members v) (kept.present ∙ sym (present-is kinds.Challenged s g of group_is.claimed)) has) (to a variable holds))
+    rest false lacks = after-all
+        (some-more (Covers (matter_in g) (pair_at s a)) (installations before) (installations (group before)) members group_is.named
+        ((matter_in g).present group_is.claimed) inside
+        (rests a variable
         (λ there. ⊎_elim
         (λ left. not_left (in-filter (λ b. not (covers b)) group_is.left a left (not-false (covers a) lacks)))
         (λ same. true≢false (sym itself ∙ ap covers same ∙ lacks))
         (Contains-push_cases group_is.left at a there))
-        not_refuted (λ there. not_undecided (in-filter (λ b. not (covers b)) group_is.undecided a there (not-false (covers a) lacks))))
+        not_refuted (λ there. not_undecided (in-filter (λ b. not (covers b)) group_is.undecided a there (not-false (covers a) lacks)))))
+
+-- ---- each pair that was asked for stays answered
+
+-- what a question for a pair adds to those of a group
+pub today-after : (before after : List CertRecord) (v at : ℕ) (installed : List (List ℕ)) → v ≢ 1 → AreAsked before (together v at) installed after
+    → ¬ Contains (group before) (Question (together 1 v)) → ¬ Contains (group after) (Question (together 1 v))
+today-after before after v at installed other asked none there =
+    ⊎_elim none (λ new. other (same-first v at 1 v new))
+    (questions-of (group before) asked.between (together v at) (together 1 v) asked.answer asked.only_derived asked.answer_line
+    (subst (λ (ls : List CertRecord). Contains ls (Question (together 1 v))) (group-after before (together v at) installed after asked) there))
+
+pub own-after : (g : Setting) (s : SpaceView) (before after : List CertRecord) (v at other : ℕ) (installed : List (List ℕ))
+    → AreAsked before (together v at) installed after → CoversOwn g before s other → CoversOwn g after s other
+own-after g s before after v at other installed asked any =
+    subst (λ (ms : List (List ℕ)). Any (Covers (matter_in g) (pair_at s other)) ms) (sym (in-group-after before (together v at) installed after asked))
+    (any-append-left (Covers (matter_in g) (pair_at s other)) (installations (group before)) installed any)
+
+pub refuted-answered : (g : Setting) (s : SpaceView) (before after : List CertRecord) (group_is : GroupView) (at : ℕ)
+    → (asked : AreAsked before (together group_is.present at) [] after) → EachAnswered g before s (with_left group_is at)
+    → EachAnswered g after s (record group_is { refuted = group_is.refuted ++ at ∷ [] })
+refuted-answered g s before after group_is at asked are a there = ⊎_elim
+    (λ old. ⊎_elim (λ refuted. inl (Contains-append_left group_is.refuted (at ∷ []) a refuted))
+    (λ more. inr (⊎_elim (λ undecided. inl undecided)
+    (λ own. inr (own-after g s before after group_is.present at a [] asked own)) more)) (are a old))
+    (λ same. inl (subst (λ (n : ℕ). Contains (group_is.refuted ++ at ∷ []) n) same (Contains-push group_is.refuted at)))
+    (asked-after before group_is.present at a [] after asked there)
+
+pub undecided-answered : (g : Setting) (s : SpaceView) (before after : List CertRecord) (group_is : GroupView) (at : ℕ)
+    → (asked : AreAsked before (together group_is.present at) [] after) → EachAnswered g before s (with_left group_is at)
+    → EachAnswered g after s (record group_is { undecided = group_is.undecided ++ at ∷ [] })
+undecided-answered g s before after group_is at asked are a there = ⊎_elim
+    (λ old. ⊎_elim (λ refuted. inl refuted)
+    (λ more. inr (⊎_elim (λ undecided. inl (Contains-append_left group_is.undecided (at ∷ []) a undecided))
+    (λ own. inr (own-after g s before after group_is.present at a [] asked own)) more)) (are a old))
+    (λ same. inr (inl (subst (λ (n : ℕ). Contains (group_is.undecided ++ at ∷ []) n) same (Contains-push group_is.undecided at))))
+    (asked-after before group_is.present at a [] after asked there)
+
+pub found-answered : (g : Setting) (s : SpaceView) (before after : List CertRecord) (group_is : GroupView) (at : ℕ) (members : List ℕ) (covers : ℕ → Bool)
+    → AreAsked before (together group_is.present at) (members ∷ []) after
+    → All (IsPairVariable s (slice_index s.cluster_of (group_is.claimed - 1))) group_is.undecided
+    → ((a : ℕ) → IsPairVariable s (slice_index s.cluster_of (group_is.claimed - 1)) a → covers a ≡ true → Covers (matter_in g) (pair_at s a) members)
+    → IsPairVariable s (slice_index s.cluster_of (group_is.claimed - 1)) at → covers at ≡ true → EachAnswered g before s (with_left group_is at)
+    → EachAnswered g after s (record group_is {
+      left = filter (λ a. not (covers a)) group_is.left;
+      undecided = filter (λ a. not (covers a)) group_is.undecided;
+    })
+found-answered g s before after group_is at members covers asked variables to variable itself are a there = ⊎_elim
+    (λ old. ⊎_elim (λ refuted. inl refuted)
+    (λ more. inr (⊎_elim (λ undecided. still a undecided (covers a) refl)
+    (λ own. inr (own-after g s before after group_is.present at a (members ∷ []) asked own)) more)) (are a old))
+    (λ same. inr (inr (new a (subst (λ (n : ℕ). Covers (matter_in g) (pair_at s n) members) same (to at variable itself)))))
+    (asked-after before group_is.present at a (members ∷ []) after asked there)
+  where
+    new : (a : ℕ) → Covers (matter_in g) (pair_at s a) members → CoversOwn g after s a
+    new a holds =
+        subst (λ (ms : List (List ℕ)). Any (Covers (matter_in g) (pair_at s a)) ms)
+        (sym (in-group-after before (together group_is.present at) (members ∷ []) after asked))
+        (any-append-right (Covers (matter_in g) (pair_at s a)) (installations (group before)) members holds)
+
+    still : (a : ℕ) → Contains group_is.undecided a → (b : Bool) → covers a ≡ b
+        → Contains (filter (λ x. not (covers x)) group_is.undecided) a ⊎ CoversOwn g after s a
+    still a there true holds = inr (new a (to a (All-contains (IsPairVariable s (slice_index s.cluster_of (group_is.claimed - 1))) group_is.undecided a
+        variables there) holds))
+    still a there false lacks = inl (in-filter (λ x. not (covers x)) group_is.undecided a there (not-false (covers a) lacks))

@@ -1,9 +1,6 @@
--- The kinds of certificates on futures are not kind strong.
+-- Kind challenged is not kind strong.
 use Rattle.std.proofs.Common.{◌≢◌}
-use Rattle.dist_cert.specs.declared.records.CertKind.TheVariants.{Challenged, Outdated, Strong}
-
-pub outdated-is-later : Outdated ≢ Strong
-outdated-is-later e = cc
+use Rattle.dist_cert.specs.declared.records.CertKind.TheVariants.{Challenged, Strong}
 
 pub challenged-is-later : Challenged ≢ Strong
 challenged-is-later e = cc

@@ -1,16 +1,8 @@
 mod LaterKinds
 mod Starts
-mod Asked
-mod ClaimLines
-mod Spaces
-mod LatestSteps
-mod OutdatedSteps
-mod UsedSteps
-mod PairOrder
-mod CoverSteps
 mod CoveredPairs
 mod GroupLines
-mod GroupStart
+mod Planned
 mod GroupSteps
 mod ChallengedLine
 mod SettleSteps

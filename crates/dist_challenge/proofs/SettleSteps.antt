@@ -5,7 +5,6 @@ use Rattle.std.specs.List.{All, AllPairs, Contains}
 use Rattle.std.specs.Prelude.{slice_index}
 use Rattle.std.proofs.lemmas.List.{get_or_append_left, get_or_at}
 use Rattle.std.proofs.lemmas.List.Elements.{All-cons, All-filter, All-nil, All-push, Contains-push}
-use Rattle.std.proofs.lemmas.Option.{slice_get_within}
 use Rattle.circular_buffer.specs.Buffer.{keep_last}
 use Rattle.dist_outside.specs.DeskView.{DeskView, FileGrew}
 use Rattle.dist_outside.specs.declared.trouble.WorkError.{WorkError}
@@ -29,25 +28,46 @@ use Rattle.dist_sweep.specs.TrueOnesLaws.{true-ones}
 use Rattle.dist_sweep.specs.Window.{IsWindowAt, WindowView}
 use Rattle.dist_sweep.specs.WindowLaws.{window-more, window-same}
 use Rattle.dist_sweep.specs.Words.{true_variables}
+use Rattle.dist_sweep.specs.declared.asker.Reply.{Reply}
 use Rattle.dist_sweep.specs.declared.asker.Reply.TheVariants as replies
-use Rattle.dist_challenge.specs.ChallengedPrivate.{AreUsed, AreUses, ChallengedView}
-use Rattle.dist_challenge.specs.GroupPrivate.{FitsGroup, GroupView, IsAdded, IsGroupAt, IsSettling, IsStruck, SettleMore, SettleStops, together}
-use Rattle.dist_challenge.specs.CoverPrivate.{IsKept, IsPairVariable, covered_by}
-use Rattle.dist_challenge.specs.FuturesPrivate.{IsOfSpace}
-use Rattle.dist_challenge.specs.UsedPrivate.{pair_at}
-use Rattle.dist_challenge.proofs.Asked.{AskedFrom, asked-lines, asked-none, IsReady, Known}
+use Rattle.dist_covering.specs.Covering.{CoveringView, IsAdded}
+use Rattle.dist_covering.specs.Used.{AreUsed, AreUses}
+use Rattle.dist_challenge.specs.GroupPrivate.{CoversRest, EachAnswered, FitsBegun, FitsGroup, IsGroupAt, IsSettling, NoToday}
+use Rattle.dist_covering.specs.Planning.{IsStruck}
+use Rattle.dist_covering.specs.Group.{GroupView}
+use Rattle.dist_challenge.specs.GroupPrivate.{SettleMore, SettleStops, together}
+use Rattle.dist_covering.specs.OpenPairs.{IsKept, IsPairVariable, covered_by}
+use Rattle.dist_challenge.specs.GroupPrivate.{IsNextCount}
+use Rattle.dist_sweep.specs.Futures.{IsOfSpace}
+use Rattle.dist_covering.specs.Used.{pair_at}
+use Rattle.dist_sweep.specs.AskedLaws.{AskedFrom, asked-lines, asked-none, IsReady, Known}
 use Rattle.dist_challenge.proofs.ChallengedLine.{at-is, pair-for, pair-question, PairsLaw}
 use Rattle.dist_challenge.proofs.CoveredPairs.{CoveredLaw, Kept, kept-covers, uses-more, uses-same}
-use Rattle.dist_challenge.proofs.CoverSteps.{filter-few}
-use Rattle.dist_challenge.proofs.GroupSteps.{found-step, refuted-step, undecided-step, with_left}
-use Rattle.dist_challenge.proofs.Spaces.{packages-are, present-in, present-is}
+use Rattle.dist_covering.specs.ListLaws.{filter-few}
+use Rattle.dist_challenge.proofs.GroupLines.{not-first}
+use Rattle.dist_challenge.proofs.GroupSteps.{found-answered, found-rest, found-step, refuted-answered, refuted-rest, refuted-step}
+use Rattle.dist_challenge.proofs.GroupSteps.{today-after, undecided-answered, undecided-rest, undecided-step, with_left}
+use Rattle.dist_sweep.specs.FuturesLaws.{packages-are, present-in, present-is}
+use Rattle.dist_covering.specs.PairLaws.{variable-inside, all-inside}
 
-abbrev pub Settled : AskerView → WindowView → ChallengedView → GroupView → Known
+abbrev pub Settled : AskerView → WindowView → CoveringView → GroupView → Known
 Settled a w c group_is = λ g before. IsSettling g before a w c group_is
 
 -- ---- one after another
 
-pub settle-join : (first mid last : DeskView) (a b d : AskerView) (w v u : WindowView) (c e f : ChallengedView) (one two three : GroupView) → TwiceLaw
+pub settle-none : (old : DeskView) (a : AskerView) (w : WindowView) (c : CoveringView) (group_is : GroupView) → FileGrew [] old old
+    → SettleMore old old a a w w c c group_is group_is
+settle-none old a w c group_is none g before at = record {
+  added = [];
+  grew = none;
+  no_claims = refl;
+  settling = subst (λ ls. IsSettling g ls a w c group_is) (sym (append-nil before)) at;
+  rest = λ covers. subst (λ ls. CoversRest g ls c.space group_is) (sym (append-nil before)) covers;
+  answered = λ are. subst (λ ls. EachAnswered g ls c.space group_is) (sym (append-nil before)) are;
+  no_today = λ none_of. subst (λ ls. NoToday ls group_is) (sym (append-nil before)) none_of;
+}
+
+pub settle-join : (first mid last : DeskView) (a b d : AskerView) (w v u : WindowView) (c e f : CoveringView) (one two three : GroupView) → TwiceLaw
     → SettleMore first mid a b w v c e one two → SettleMore mid last b d v u e f two three → SettleMore first last a d w u c f one three
 settle-join first mid last a b d w v u c e f one two three twice before_it behind g before at =
     let x = before_it g before at in
@@ -58,21 +78,22 @@ settle-join first mid last a b d w v u c e f one two three twice before_it behin
           (twice (lines_text x.added) (lines_text y.added) first mid last x.grew y.grew);
       no_claims = any-join x.added y.added x.no_claims y.no_claims;
       settling = subst (λ ls. IsSettling g ls d u f three) (append_assoc before x.added y.added) y.settling;
+      rest = λ covers. subst (λ ls. CoversRest g ls f.space three) (append_assoc before x.added y.added) (y.rest (x.rest covers));
+      answered = λ are. subst (λ ls. EachAnswered g ls f.space three) (append_assoc before x.added y.added) (y.answered (x.answered are));
+      no_today = λ none. subst (λ ls. NoToday ls three) (append_assoc before x.added y.added) (y.no_today (x.no_today none));
     }
 
-pub settle-stops : (first mid last : DeskView) (a b : AskerView) (w v : WindowView) (c e : ChallengedView) (one two : GroupView) (error : WorkError) → TwiceLaw
+pub settle-stops : (first mid last : DeskView) (a b : AskerView) (w v : WindowView) (c e : CoveringView) (one two : GroupView) (error : WorkError) → TwiceLaw
     → SettleMore first mid a b w v c e one two → SettleStops mid last b v e two error → SettleStops first last a w c one error
 settle-stops first mid last a b w v c e one two error twice before_it behind g before at =
     let x = before_it g before at in stops-after twice g before x.added first mid last error x.grew (behind g (before ++ x.added) x.settling)
 
 -- ---- the question
 
-pub variable-inside : (s : SpaceView) (own at : ℕ) → IsPairVariable s own at → (1 ≤ at) × (at ≤ length s.meanings)
-variable-inside s own at v =
-    let within = slice_get_within s.meanings (at - 1) (At v.cluster v.class) v.is in (v.from_one, omega (arith, within, v.from_one))
-
-pub all-inside : (s : SpaceView) (own : ℕ) (ats : List ℕ) → All (IsPairVariable s own) ats → All (λ at. (1 ≤ at) × (at ≤ length s.meanings)) ats
-all-inside s own ats all k d within = variable-inside s own (get_or ats k d) (all k d within)
+-- what is told of an installation
+pub held : (n : ℕ) (question words : List Word) (reply told : Reply) → words ≡ question → reply ≡ told → Holds n words reply → Holds n question told
+held n question words reply told are is holds =
+    subst (λ (r : Reply). Holds n question r) is (subst (λ (ws : List Word). Holds n ws reply) are holds)
 
 not-present : (s : SpaceView) (r own at : ℕ) → IsSpace s → r < length s.repository.packages → IsPairVariable s own at → variable_of s (Present r) ≢ at
 not-present s r own at space within v same =
@@ -102,20 +123,20 @@ pub last-variable : (s : SpaceView) (own at : ℕ) (left : List ℕ) → All (Is
 last-variable s own at left all =
     subst (IsPairVariable s own) (get_or_at left at [] at (length left) refl) (all (length left) at (omega (arith, length-append left (at ∷ []))))
 
-pub pair-over : (a : AskerView) (w : WindowView) (c : ChallengedView) (group_is : GroupView) (at : ℕ) → IsSpace c.space
+pub pair-over : (a : AskerView) (w : WindowView) (c : CoveringView) (group_is : GroupView) (at : ℕ) → IsSpace c.space
     → FitsGroup a w c (with_left group_is at) → IsOver a.log.variables (together group_is.present at)
 pair-over a w c group_is at space fits =
-    let within : group_is.claimed - 1 < length c.space.repository.packages = omega (arith, fits.from_one, fits.upto) in
+    let within : group_is.claimed - 1 < length c.space.repository.packages = omega (arith, fits.begun.from_one, fits.begun.upto) in
     let range = present-in c.space (group_is.claimed - 1) space within in
     let v = last-variable c.space (slice_index c.space.cluster_of (group_is.claimed - 1)) at group_is.left fits.left in
     let inside = variable-inside c.space (slice_index c.space.cluster_of (group_is.claimed - 1)) at v in
-    let is = fits.present in
-    let all = fits.variables in
+    let is = fits.begun.present in
+    let all = fits.begun.variables in
     two-over a.log.variables group_is.present at (omega (arith, range.from_one, is)) (omega (arith, range.upto, is, all)) inside.0 (omega
     (arith, inside.1, all))
     (λ same. not-present c.space (group_is.claimed - 1) (slice_index c.space.cluster_of (group_is.claimed - 1)) at space within v (sym is ∙ same))
 
-pub pair-ready : PairsLaw → (a : AskerView) (w : WindowView) (c : ChallengedView) (group_is : GroupView) (at : ℕ) → IsSpace c.space
+pub pair-ready : PairsLaw → (a : AskerView) (w : WindowView) (c : CoveringView) (group_is : GroupView) (at : ℕ) → IsSpace c.space
     → FitsGroup a w c (with_left group_is at) → IsReady (Settled a w c (with_left group_is at)) a (together group_is.present at)
 pair-ready law a w c group_is at space fits = record {
   at = λ g before settling. settling.at;
@@ -130,7 +151,7 @@ pair-ready law a w c group_is at space fits = record {
             (subst (λ (n : ℕ). IsQuestionOn (matter_in g) kinds.Challenged n (together group_is.present at)) kept.claimed
             (inr (
               pair_at c.space at,
-              pair-for law g c.space of space group_is.claimed at fits.from_one v,
+              pair-for law g c.space of space group_is.claimed at fits.begun.from_one v,
               pair-question law g c.space of space group_is.claimed group_is.present at (slice_index c.space.cluster_of (group_is.claimed - 1))
                   (present-is kinds.Challenged c.space g of group_is.claimed ∙ sym kept.present) v,
             )));
@@ -140,10 +161,16 @@ pair-ready law a w c group_is at space fits = record {
 
 -- ---- the three replies
 
-pub settled-refuted : (old new : DeskView) (a b : AskerView) (w : WindowView) (c : ChallengedView) (group_is : GroupView) (at : ℕ)
-    → AskedFrom (Settled a w c (with_left group_is at)) (together group_is.present at) old new b replies.Refuted
+-- the variable of the package is not that of today
+pub later-present : (a : AskerView) (w : WindowView) (c : CoveringView) (group_is : GroupView) → IsSpace c.space → FitsBegun a w c group_is
+    → group_is.present ≢ 1
+later-present a w c group_is space fits same =
+    not-first c.space (group_is.claimed - 1) space (omega (arith, fits.from_one, fits.upto)) (sym fits.present ∙ same)
+
+pub settled-refuted : (old new : DeskView) (a b : AskerView) (w : WindowView) (c : CoveringView) (group_is : GroupView) (at : ℕ)
+    → group_is.present ≢ 1 → AskedFrom (Settled a w c (with_left group_is at)) (together group_is.present at) old new b replies.Refuted
     → SettleMore old new a b w w c c (with_left group_is at) (record group_is { refuted = group_is.refuted ++ at ∷ [] })
-settled-refuted old new a b w c group_is at asks g before settling =
+settled-refuted old new a b w c group_is at other asks g before settling =
     let asked = asks g before settling in
     let lines : List CertRecord = before ++ question_lines (together group_is.present at) asked.between asked.answer in
     let behind = asked-lines g before (together group_is.present at) old new b replies.Refuted [] asked (ap installed_in asked.is_answer.1) in
@@ -161,12 +188,15 @@ settled-refuted old new a b w c group_is at asks g before settling =
         window = window-same before lines (together group_is.present at) w settling.window behind;
         group_at = refuted-step g c.space before lines group_is at asked.is_answer.0 settling.group_at behind asked.is_answer.1;
       };
+      rest = refuted-rest g c.space before lines group_is at behind;
+      answered = refuted-answered g c.space before lines group_is at behind;
+      no_today = today-after before lines group_is.present at [] other behind;
     }
 
-pub settled-undecided : (old new : DeskView) (a b : AskerView) (w : WindowView) (c : ChallengedView) (group_is : GroupView) (at : ℕ)
-    → AskedFrom (Settled a w c (with_left group_is at)) (together group_is.present at) old new b replies.Undecided
+pub settled-undecided : (old new : DeskView) (a b : AskerView) (w : WindowView) (c : CoveringView) (group_is : GroupView) (at : ℕ)
+    → group_is.present ≢ 1 → AskedFrom (Settled a w c (with_left group_is at)) (together group_is.present at) old new b replies.Undecided
     → SettleMore old new a b w w c c (with_left group_is at) (record group_is { undecided = group_is.undecided ++ at ∷ [] })
-settled-undecided old new a b w c group_is at asks g before settling =
+settled-undecided old new a b w c group_is at other asks g before settling =
     let asked = asks g before settling in
     let lines : List CertRecord = before ++ question_lines (together group_is.present at) asked.between asked.answer in
     let behind = asked-lines g before (together group_is.present at) old new b replies.Undecided [] asked (ap installed_in asked.is_answer) in
@@ -184,6 +214,9 @@ settled-undecided old new a b w c group_is at asks g before settling =
         window = window-same before lines (together group_is.present at) w settling.window behind;
         group_at = undecided-step g c.space before lines group_is at settling.group_at behind asked.is_answer;
       };
+      rest = undecided-rest g c.space before lines group_is at behind;
+      answered = undecided-answered g c.space before lines group_is at behind;
+      no_today = today-after before lines group_is.present at [] other behind;
     }
 
 -- the latest installation by its number
@@ -196,7 +229,7 @@ latest-is before lines question members count behind is =
     ∙ get_or_at (installations before) members [] [] (length (installations before)) refl
 
 -- what is kept once an installation was added
-pub added-kept : (g : Setting) (before lines : List CertRecord) (question : List Word) (w v : WindowView) (c : ChallengedView) (values : List Bool)
+pub added-kept : (g : Setting) (before lines : List CertRecord) (question : List Word) (w v : WindowView) (c : CoveringView) (values : List Bool)
     (used : List ℕ)
     → IsOfSpace kinds.Challenged c.space g → IsSpace c.space → IsWindowAt before w → w.variables ≡ length c.space.meanings
     → AreUses c.space (keep_last REACH (installations before)) c.uses
@@ -214,7 +247,7 @@ added-kept g before lines question w v c values used of space window variables u
       (uses-more c.space (installations before) c.uses values used size uses are_used);
 }
 
-pub settled-found : CoveredLaw → PairsLaw → (old new : DeskView) (a b : AskerView) (w v : WindowView) (c d : ChallengedView) (group_is h : GroupView) (at : ℕ)
+pub settled-found : CoveredLaw → PairsLaw → (old new : DeskView) (a b : AskerView) (w v : WindowView) (c d : CoveringView) (group_is h : GroupView) (at : ℕ)
     (values : List Bool) → IsSpace c.space → FitsGroup a w c (with_left group_is at)
     → AskedFrom (Settled a w c (with_left group_is at)) (together group_is.present at) old new b (replies.Found values)
     → Holds a.log.variables (together group_is.present at) (replies.Found values) → IsAdded c d w v values → IsStruck d v group_is h
@@ -225,17 +258,17 @@ settled-found covered_law law old new a b w v c d group_is h at values space fit
     let behind = asked-lines g before (together group_is.present at) old new b (replies.Found values) (true_variables values ∷ []) asked
     (ap installed_in asked.is_answer) in
     let of = settling.keeps.of_space in
-    let size : length values ≡ length c.space.meanings = holds.0 ∙ fits.variables in
-    let e : ChallengedView = record c { uses = keep_last REACH (c.uses ++ added.used ∷ []) } in
-    let kept : Kept g lines v e = added-kept g before lines (together group_is.present at) w v c values added.used of space settling.window fits.window
+    let size : length values ≡ length c.space.meanings = holds.0 ∙ fits.begun.variables in
+    let e : CoveringView = record c { uses = keep_last REACH (c.uses ++ added.used ∷ []) } in
+    let kept : Kept g lines v e = added-kept g before lines (together group_is.present at) w v c values added.used of space settling.window fits.begun.window
     settling.keeps.uses behind size added.are_used added.window in
-    let struck_by : IsStruck e v group_is h = subst (λ (x : ChallengedView). IsStruck x v group_is h) added.is struck in
+    let struck_by : IsStruck e v group_is h = subst (λ (x : CoveringView). IsStruck x v group_is h) added.is struck in
     let count : v.count ≡ length (installations before) + 1 = ap (λ (x : WindowView). x.count) added.window ∙ ap (λ (n : ℕ). n + 1) settling.window.count in
     let latest = latest-is before lines (together group_is.present at) (true_variables values) v.count behind count in
     let over = pair-over a w c group_is at space fits in
-    let within : group_is.claimed - 1 < length c.space.repository.packages = omega (arith, fits.from_one, fits.upto) in
+    let within : group_is.claimed - 1 < length c.space.repository.packages = omega (arith, fits.begun.from_one, fits.begun.upto) in
     let range = present-in c.space (group_is.claimed - 1) space within in
-    let is = fits.present in
+    let is = fits.begun.present in
     let variable = last-variable c.space (slice_index c.space.cluster_of (group_is.claimed - 1)) at group_is.left fits.left in
     let inside = variable-inside c.space (slice_index c.space.cluster_of (group_is.claimed - 1)) at variable in
     let has : Contains (true_variables values) group_is.present =
@@ -258,73 +291,29 @@ settled-found covered_law law old new a b w v c d group_is h at values space fit
       added = question_lines (together group_is.present at) asked.between asked.answer;
       grew = asked.grew;
       no_claims = asked-none g before (together group_is.present at) old new b (replies.Found values) asked;
-      settling = subst (λ (x : ChallengedView). IsSettling g lines b v x h) (sym added.is) (record {
+      settling = subst (λ (x : CoveringView). IsSettling g lines b v x h) (sym added.is) (record {
         keeps = record { of_space = of; uses = kept.uses };
         at = asked.at;
         window = kept.window;
         group_at = subst (λ (x : GroupView). IsGroupAt g lines c.space x) (sym struck_by.is) stepped;
       });
+      rest = λ covers. subst (λ (x : CoveringView). CoversRest g lines x.space h) (sym added.is)
+          (subst (λ (x : GroupView). CoversRest g lines c.space x) (sym struck_by.is)
+          (found-rest g c.space before lines group_is at (true_variables values) (λ x. covered_by e v v.count x) of settling.group_at behind has to itself
+          covers));
+      answered = λ are. subst (λ (x : CoveringView). EachAnswered g lines x.space h) (sym added.is)
+          (subst (λ (x : GroupView). EachAnswered g lines c.space x) (sym struck_by.is)
+          (found-answered g c.space before lines group_is at (true_variables values) (λ x. covered_by e v v.count x) behind fits.begun.undecided to variable
+          itself are));
+      no_today = λ none. subst (λ (x : GroupView). NoToday lines x) (sym struck_by.is)
+          (today-after before lines group_is.present at (true_variables values ∷ []) (later-present a w c (with_left group_is at) space fits.begun) behind
+          none);
     }
 
 -- ---- what is given on
 
 front : (P : ℕ → Type 0) (xs : List ℕ) (y : ℕ) → All P (xs ++ y ∷ []) → All P xs
 front P xs y all k d within = subst P (get_or_append_left xs (y ∷ []) d k within) (all k d (omega (arith, within, length-append xs (y ∷ []))))
-
-pub fits-refuted : (a b : AskerView) (w : WindowView) (c : ChallengedView) (group_is : GroupView) (at : ℕ) → FitsGroup a w c (with_left group_is at)
-    → b.limit ≡ a.limit → b.log.variables ≡ a.log.variables → FitsGroup b w c (record group_is { refuted = group_is.refuted ++ at ∷ [] })
-fits-refuted a b w c group_is at fits limit variables = record {
-  limit = omega (arith, limit, fits.limit);
-  variables = variables ∙ fits.variables;
-  window = fits.window;
-  from_one = fits.from_one;
-  upto = fits.upto;
-  present = fits.present;
-  named = fits.named;
-  some = fits.some;
-  left = front (IsPairVariable c.space (slice_index c.space.cluster_of (group_is.claimed - 1))) group_is.left at fits.left;
-  refuted = All-push (IsPairVariable c.space (slice_index c.space.cluster_of (group_is.claimed - 1))) group_is.refuted at fits.refuted
-      (last-variable c.space (slice_index c.space.cluster_of (group_is.claimed - 1)) at group_is.left fits.left);
-  undecided = fits.undecided;
-}
-
-pub fits-undecided : (a b : AskerView) (w : WindowView) (c : ChallengedView) (group_is : GroupView) (at : ℕ) → FitsGroup a w c (with_left group_is at)
-    → b.limit ≡ a.limit → b.log.variables ≡ a.log.variables → FitsGroup b w c (record group_is { undecided = group_is.undecided ++ at ∷ [] })
-fits-undecided a b w c group_is at fits limit variables = record {
-  limit = omega (arith, limit, fits.limit);
-  variables = variables ∙ fits.variables;
-  window = fits.window;
-  from_one = fits.from_one;
-  upto = fits.upto;
-  present = fits.present;
-  named = fits.named;
-  some = fits.some;
-  left = front (IsPairVariable c.space (slice_index c.space.cluster_of (group_is.claimed - 1))) group_is.left at fits.left;
-  refuted = fits.refuted;
-  undecided = All-push (IsPairVariable c.space (slice_index c.space.cluster_of (group_is.claimed - 1))) group_is.undecided at fits.undecided
-      (last-variable c.space (slice_index c.space.cluster_of (group_is.claimed - 1)) at group_is.left fits.left);
-}
-
-pub fits-found : (a b : AskerView) (w v : WindowView) (c d : ChallengedView) (group_is h : GroupView) (at : ℕ) (values : List Bool)
-    → FitsGroup a w c (with_left group_is at) → b.limit ≡ a.limit → b.log.variables ≡ a.log.variables → IsAdded c d w v values → IsStruck d v group_is h
-    → FitsGroup b v d h
-fits-found a b w v c d group_is h at values fits limit variables added struck =
-    subst (λ (x : ChallengedView). FitsGroup b v x h) (sym added.is)
-    (subst (λ (x : GroupView). FitsGroup b v (record c { uses = keep_last REACH (c.uses ++ added.used ∷ []) }) x) (sym struck.is) (record {
-      limit = omega (arith, limit, fits.limit);
-      variables = variables ∙ fits.variables;
-      window = ap (λ (x : WindowView). x.variables) added.window ∙ fits.window;
-      from_one = fits.from_one;
-      upto = fits.upto;
-      present = fits.present;
-      named = fits.named;
-      some = λ none. let count = ap (λ (x : WindowView). x.count) added.window in omega (arith, count);
-      left = All-filter (λ x. not (covered_by d v v.count x)) (IsPairVariable c.space (slice_index c.space.cluster_of (group_is.claimed - 1))) group_is.left
-          (front (IsPairVariable c.space (slice_index c.space.cluster_of (group_is.claimed - 1))) group_is.left at fits.left);
-      refuted = fits.refuted;
-      undecided = All-filter (λ x. not (covered_by d v v.count x)) (IsPairVariable c.space (slice_index c.space.cluster_of (group_is.claimed - 1)))
-          group_is.undecided fits.undecided;
-    }))
 
 -- the latest installation is kept
 pub latest-kept : (w v : WindowView) (values : List Bool) → v ≡ record w { kept = keep_last REACH (w.kept ++ values ∷ []); count = w.count + 1 }
@@ -335,20 +324,97 @@ latest-kept w v values is =
     let left = length-drop (length (w.kept ++ values ∷ []) - REACH) (w.kept ++ values ∷ []) in
     record { low = omega (arith, kept, size, left); high = omega arith }
 
+pub fits-refuted : (a b : AskerView) (w : WindowView) (c : CoveringView) (group_is : GroupView) (at : ℕ) → FitsGroup a w c (with_left group_is at)
+    → b.limit ≡ a.limit → b.log.variables ≡ a.log.variables → FitsGroup b w c (record group_is { refuted = group_is.refuted ++ at ∷ [] })
+fits-refuted a b w c group_is at fits limit variables = record {
+  begun = record {
+    limit = omega (arith, limit, fits.begun.limit);
+    variables = variables ∙ fits.begun.variables;
+    window = fits.begun.window;
+    from_one = fits.begun.from_one;
+    upto = fits.begun.upto;
+    present = fits.begun.present;
+    refuted = All-push (IsPairVariable c.space (slice_index c.space.cluster_of (group_is.claimed - 1))) group_is.refuted at fits.begun.refuted
+        (last-variable c.space (slice_index c.space.cluster_of (group_is.claimed - 1)) at group_is.left fits.left);
+    undecided = fits.begun.undecided;
+  };
+  named = fits.named;
+  some = fits.some;
+  left = front (IsPairVariable c.space (slice_index c.space.cluster_of (group_is.claimed - 1))) group_is.left at fits.left;
+}
+
+pub fits-undecided : (a b : AskerView) (w : WindowView) (c : CoveringView) (group_is : GroupView) (at : ℕ) → FitsGroup a w c (with_left group_is at)
+    → b.limit ≡ a.limit → b.log.variables ≡ a.log.variables → FitsGroup b w c (record group_is { undecided = group_is.undecided ++ at ∷ [] })
+fits-undecided a b w c group_is at fits limit variables = record {
+  begun = record {
+    limit = omega (arith, limit, fits.begun.limit);
+    variables = variables ∙ fits.begun.variables;
+    window = fits.begun.window;
+    from_one = fits.begun.from_one;
+    upto = fits.begun.upto;
+    present = fits.begun.present;
+    refuted = fits.begun.refuted;
+    undecided = All-push (IsPairVariable c.space (slice_index c.space.cluster_of (group_is.claimed - 1))) group_is.undecided at fits.begun.undecided
+        (last-variable c.space (slice_index c.space.cluster_of (group_is.claimed - 1)) at group_is.left fits.left);
+  };
+  named = fits.named;
+  some = fits.some;
+  left = front (IsPairVariable c.space (slice_index c.space.cluster_of (group_is.claimed - 1))) group_is.left at fits.left;
+}
+
+pub fits-found : (a b : AskerView) (w v : WindowView) (c d : CoveringView) (group_is h : GroupView) (at : ℕ) (values : List Bool)
+    → FitsGroup a w c (with_left group_is at) → b.limit ≡ a.limit → b.log.variables ≡ a.log.variables → IsAdded c d w v values → IsStruck d v group_is h
+    → FitsGroup b v d h
+fits-found a b w v c d group_is h at values fits limit variables added struck =
+    subst (λ (x : CoveringView). FitsGroup b v x h) (sym added.is)
+    (subst (λ (x : GroupView). FitsGroup b v (record c { uses = keep_last REACH (c.uses ++ added.used ∷ []) }) x) (sym struck.is) (record {
+      begun = record {
+        limit = omega (arith, limit, fits.begun.limit);
+        variables = variables ∙ fits.begun.variables;
+        window = ap (λ (x : WindowView). x.variables) added.window ∙ fits.begun.window;
+        from_one = fits.begun.from_one;
+        upto = fits.begun.upto;
+        present = fits.begun.present;
+        refuted = fits.begun.refuted;
+        undecided = All-filter (λ x. not (covered_by d v v.count x)) (IsPairVariable c.space (slice_index c.space.cluster_of (group_is.claimed - 1)))
+            group_is.undecided fits.begun.undecided;
+      };
+      named = fits.named;
+      some = λ none. let count = ap (λ (x : WindowView). x.count) added.window in omega (arith, count);
+      left = All-filter (λ x. not (covered_by d v v.count x)) (IsPairVariable c.space (slice_index c.space.cluster_of (group_is.claimed - 1))) group_is.left
+          (front (IsPairVariable c.space (slice_index c.space.cluster_of (group_is.claimed - 1))) group_is.left at fits.left);
+    }))
+
+-- and the one before, where that was the latest one
+pub before-kept : (w v : WindowView) (values : List Bool) (number : ℕ) → number ≡ w.count → IsKept w w.count
+    → v ≡ record w { kept = keep_last REACH (w.kept ++ values ∷ []); count = w.count + 1 } → IsKept v number
+before-kept w v values number same was is =
+    let kept = ap (λ (x : WindowView). length x.kept) is in
+    let count = ap (λ (x : WindowView). x.count) is in
+    let size = length-append w.kept (values ∷ []) in
+    let left = length-drop (length (w.kept ++ values ∷ []) - REACH) (w.kept ++ values ∷ []) in
+    let low = was.low in
+    record { low = omega (arith, kept, size, left, count, same, low); high = omega (arith, same, count) }
+
+-- one installation came, and is kept
+pub next-count : (w v : WindowView) (values : List Bool) → v ≡ record w { kept = keep_last REACH (w.kept ++ values ∷ []); count = w.count + 1 }
+    → IsNextCount w v
+next-count w v values is = inr (ap (λ (x : WindowView). x.count) is, latest-kept w v values is)
+
 -- what may be struck is of the space
-pub inside-left : (a : AskerView) (w : WindowView) (c d : ChallengedView) (group_is : GroupView) (at : ℕ) → FitsGroup a w c (with_left group_is at)
+pub inside-left : (a : AskerView) (w : WindowView) (c d : CoveringView) (group_is : GroupView) (at : ℕ) → FitsGroup a w c (with_left group_is at)
     → d.space ≡ c.space → All (λ x. (1 ≤ x) × (x ≤ length d.space.meanings)) group_is.left
 inside-left a w c d group_is at fits same =
     subst (λ (s : SpaceView). All (λ x. (1 ≤ x) × (x ≤ length s.meanings)) group_is.left) (sym same)
     (all-inside c.space (slice_index c.space.cluster_of (group_is.claimed - 1)) group_is.left
     (front (IsPairVariable c.space (slice_index c.space.cluster_of (group_is.claimed - 1))) group_is.left at fits.left))
 
-pub inside-undecided : (a : AskerView) (w : WindowView) (c d : ChallengedView) (group_is : GroupView) (at : ℕ) → FitsGroup a w c (with_left group_is at)
+pub inside-undecided : (a : AskerView) (w : WindowView) (c d : CoveringView) (group_is : GroupView) (at : ℕ) → FitsGroup a w c (with_left group_is at)
     → d.space ≡ c.space → All (λ x. (1 ≤ x) × (x ≤ length d.space.meanings)) group_is.undecided
 inside-undecided a w c d group_is at fits same =
     subst (λ (s : SpaceView). All (λ x. (1 ≤ x) × (x ≤ length s.meanings)) group_is.undecided) (sym same)
-    (all-inside c.space (slice_index c.space.cluster_of (group_is.claimed - 1)) group_is.undecided fits.undecided)
+    (all-inside c.space (slice_index c.space.cluster_of (group_is.claimed - 1)) group_is.undecided fits.begun.undecided)
 
-pub struck-fewer : (d : ChallengedView) (v : WindowView) (group_is h : GroupView) → IsStruck d v group_is h → length h.left ≤ length group_is.left
+pub struck-fewer : (d : CoveringView) (v : WindowView) (group_is h : GroupView) → IsStruck d v group_is h → length h.left ≤ length group_is.left
 struck-fewer d v group_is h struck =
     subst (λ (x : GroupView). length x.left ≤ length group_is.left) (sym struck.is) (filter-few (λ x. not (covered_by d v v.count x)) group_is.left)

@@ -1,10 +1,8 @@
 -- Serves private contracts: the group of a claim on a challenged package.
-use Rattle.std.specs.Prelude.{◌≡◌, ◌≢◌, ℕ, ◌+◌, ◌-◌, ◌<◌, ◌≤◌, Bool, true, false, not, List, [], ◌∷◌, ◌++◌, All}
-use Rattle.std.specs.Prelude.{AllPairs, Contains}
-use Rattle.std.specs.Prelude.{filter, length, map, slice_index, slice_index_or}
+use Rattle.std.specs.Prelude.{◌≡◌, ◌≢◌, ◌⊎◌, ℕ, ◌+◌, ◌-◌, ◌<◌, ◌≤◌, false, List, [], ◌∷◌, ◌++◌, All, AllPairs, Any}
+use Rattle.std.specs.Prelude.{Contains}
+use Rattle.std.specs.Prelude.{length, map, slice_index, slice_index_or}
 use Rattle.std.specs.List.{list_any}
-use Rattle.circular_buffer.specs.Buffer.{keep_last}
-use Rattle.dist_clause.specs.Formula.{value_of}
 use Rattle.dist_outside.specs.DeskView.{DeskView, FileGrew}
 use Rattle.dist_outside.specs.declared.trouble.WorkError.{WorkError}
 use Rattle.dist_cert.specs.declared.TheConstants.{REACH}
@@ -12,7 +10,7 @@ use Rattle.dist_cert.specs.declared.records.CertRecord.{CertRecord}
 use Rattle.dist_cert.specs.declared.records.CertRecord.TheVariants.{Challenged, Question}
 use Rattle.dist_cert.specs.declared.records.Claim.{Claim}
 use Rattle.dist_cert.specs.ClaimRules.{Covers, IsCovered, SomeInstallation, yes}
-use Rattle.dist_cert.specs.Form.{AreFromOne, Word}
+use Rattle.dist_cert.specs.Form.{AreFromOne, IsSmall, Word}
 use Rattle.dist_cert.specs.Groups as lines
 use Rattle.dist_cert.specs.FileLines.{lines_text}
 use Rattle.dist_space.specs.Space.{SpaceView, variable_of}
@@ -20,22 +18,22 @@ use Rattle.dist_space.specs.declared.meaning.Meaning.TheVariants.{Present}
 use Rattle.dist_sweep.specs.Asking.{AskerView, IsAt}
 use Rattle.dist_sweep.specs.Claiming.{IsClaimed}
 use Rattle.dist_sweep.specs.Script.{Setting, Stops, matter_in}
-use Rattle.dist_sweep.specs.Window.{IsWindowAt, WindowView, kept_at}
-use Rattle.dist_challenge.specs.ChallengedPrivate.{AreUsed, ChallengedView, KeepsChallenged}
-use Rattle.dist_challenge.specs.CoverPrivate.{IsKept, IsPairVariable, IsPlan, Lasts, covered_by}
-use Rattle.dist_challenge.specs.UsedPrivate.{pair_at}
+use Rattle.dist_sweep.specs.Window.{IsWindowAt, WindowView}
+use Rattle.dist_covering.specs.Covering.{CoveringView}
+use Rattle.dist_challenge.specs.ChallengedPrivate.{KeepsChallenged}
+use Rattle.dist_covering.specs.OpenPairs.{IsKept, IsPairVariable}
+use Rattle.dist_covering.specs.Group.{GroupView}
+use Rattle.dist_covering.specs.Used.{pair_at}
 
--- The package of the claim with its variable, the installations that it is to name, the pairs that are to be asked for,
--- and those that were refuted or stayed undecided, by their variables.
-pub record GroupView : Type 0 where
-  pub claimed : ℕ
-  pub present : ℕ
-  pub named : List ℕ
-  pub left : List ℕ
-  pub refuted : List ℕ
-  pub undecided : List ℕ
+-- no installation came, or one, which is kept
+abbrev pub IsNextCount : WindowView → WindowView → Type 0
+IsNextCount w v = (v.count ≡ w.count) ⊎ ((v.count ≡ w.count + 1) × IsKept v v.count)
 
--- the question of a package at a pair
+-- both numbers of each pair are small
+abbrev pub AreSmallPairs : List (ℕ × ℕ) → Type 0
+AreSmallPairs pairs = All (λ pair. IsSmall pair.0 × IsSmall pair.1) pairs
+
+-- the question of two variables
 abbrev pub together : ℕ → ℕ → List Word
 together present at = yes present ∷ yes at ∷ []
 
@@ -89,10 +87,8 @@ pub record IsGroupAt (g : Setting) (before : List CertRecord) (s : SpaceView) (g
   pub few : AreFew g s (slice_index s.cluster_of (group.claimed - 1)) group.present (lines.installations before)
       (lines.installations (lines.group before)) group.named
   pub falling : AllPairs (λ a b. b < a) group.left
-  pub rising : AllPairs (λ a b. a < b) group.refuted × AllPairs (λ a b. a < b) group.undecided
-  pub below : All (λ at. All (λ next. at < next) group.left) group.refuted
-      × All (λ at. All (λ next. at < next) group.left) group.undecided
   pub apart : All (λ at. ¬ Contains group.undecided at) group.refuted
+  pub left_apart : All (λ at. (¬ Contains group.refuted at) × (¬ Contains group.undecided at)) group.left
   pub pairs : All (IsPairVariable s (slice_index s.cluster_of (group.claimed - 1))) group.left
       × All (IsPairVariable s (slice_index s.cluster_of (group.claimed - 1))) group.refuted
       × All (IsPairVariable s (slice_index s.cluster_of (group.claimed - 1))) group.undecided
@@ -100,11 +96,23 @@ pub record IsGroupAt (g : Setting) (before : List CertRecord) (s : SpaceView) (g
   pub are_undecided : All (λ at. lines.IsUndecidedIn (lines.group before) (together group.present at)) group.undecided
   pub uncovered : All (λ at. ¬ IsCovered (matter_in g) before group.claimed group.named (pair_at s at)) group.left
       × All (λ at. ¬ IsCovered (matter_in g) before group.claimed group.named (pair_at s at)) group.undecided
-  pub rest : CoversRest g before s group
   pub asked : (at : ℕ) → Contains (lines.group before) (Question (together group.present at)) → ¬ Contains group.left at
 
+-- an installation of the group covers the pair of a variable
+abbrev pub CoversOwn : Setting → List CertRecord → SpaceView → ℕ → Type 0
+CoversOwn g before s at = Any (Covers (matter_in g) (pair_at s at)) (lines.installations (lines.group before))
+
+-- each pair that was asked for is refuted, undecided, or covered by an installation of the group
+abbrev pub EachAnswered : Setting → List CertRecord → SpaceView → GroupView → Type 0
+EachAnswered g before s group = (at : ℕ) → Contains (lines.group before) (Question (together group.present at))
+    → Contains group.refuted at ⊎ (Contains group.undecided at ⊎ CoversOwn g before s at)
+
+-- no installation of today with the package was asked for
+abbrev pub NoToday : List CertRecord → GroupView → Type 0
+NoToday before group = ¬ Contains (lines.group before) (Question (together 1 group.present))
+
 -- All that is kept is what these lines hold.
-pub record IsSettling (g : Setting) (before : List CertRecord) (a : AskerView) (w : WindowView) (c : ChallengedView)
+pub record IsSettling (g : Setting) (before : List CertRecord) (a : AskerView) (w : WindowView) (c : CoveringView)
     (group : GroupView) : Type 0
   where
     pub keeps : KeepsChallenged g before c
@@ -112,92 +120,60 @@ pub record IsSettling (g : Setting) (before : List CertRecord) (a : AskerView) (
     pub window : IsWindowAt before w
     pub group_at : IsGroupAt g before c.space group
 
--- More lines were written, and all that is kept is what they hold too.
-pub record Settles (g : Setting) (before : List CertRecord) (old new : DeskView) (a : AskerView) (w : WindowView)
-    (c : ChallengedView)
-    (group : GroupView) : Type 0 where
+-- More lines were written for a group, and all that is kept is what they hold too. What the group says nothing of stays
+-- covered, each pair that was asked for stays answered, and no installation of today was asked for.
+pub record Settles (g : Setting) (before : List CertRecord) (old new : DeskView) (was : SpaceView) (group : GroupView)
+    (a : AskerView) (w : WindowView)
+    (c : CoveringView)
+    (h : GroupView) : Type 0 where
   pub added : List CertRecord
   pub grew : FileGrew (lines_text added) old new
   pub no_claims : list_any lines.is_claim added ≡ false
-  pub settling : IsSettling g (before ++ added) a w c group
+  pub settling : IsSettling g (before ++ added) a w c h
+  pub rest : CoversRest g before was group → CoversRest g (before ++ added) c.space h
+  pub answered : EachAnswered g before was group → EachAnswered g (before ++ added) c.space h
+  pub no_today : NoToday before group → NoToday (before ++ added) h
 
-abbrev pub SettleMore : DeskView → DeskView → AskerView → AskerView → WindowView → WindowView → ChallengedView
-    → ChallengedView → GroupView → GroupView
+abbrev pub SettleMore : DeskView → DeskView → AskerView → AskerView → WindowView → WindowView → CoveringView
+    → CoveringView → GroupView → GroupView
     → Type 0
 SettleMore old new a b w v c d group h = (g : Setting) (before : List CertRecord) → IsSettling g before a w c group
-    → Settles g before old new b v d h
+    → Settles g before old new c.space group b v d h
 
-abbrev pub SettleStops : DeskView → DeskView → AskerView → WindowView → ChallengedView → GroupView → WorkError → Type 0
+abbrev pub SettleStops : DeskView → DeskView → AskerView → WindowView → CoveringView → GroupView → WorkError → Type 0
 SettleStops old new a w c group error = (g : Setting) (before : List CertRecord) → IsSettling g before a w c group
     → Stops g before old new error
 
 -- where a claim was written behind the lines of its group
-abbrev pub ChallengeMore : DeskView → DeskView → AskerView → AskerView → WindowView → WindowView → ChallengedView
-    → ChallengedView → GroupView → Claim
+abbrev pub ChallengeMore : DeskView → DeskView → AskerView → AskerView → WindowView → WindowView → CoveringView
+    → CoveringView → GroupView → Claim
     → Type 0
 ChallengeMore old new a b w v c d group claim = (g : Setting) (before : List CertRecord)
-    → IsSettling g before a w c group
+    → IsSettling g before a w c group → CoversRest g before c.space group
     → IsClaimed g before old new b v (λ lines. KeepsChallenged g lines d) claim
 
--- What the calls of a group are given, apart from the lines.
-pub record FitsGroup (a : AskerView) (w : WindowView) (c : ChallengedView) (group : GroupView) : Type 0 where
+abbrev pub ChallengeStops : DeskView → DeskView → AskerView → WindowView → CoveringView → GroupView → WorkError
+    → Type 0
+ChallengeStops old new a w c group error = (g : Setting) (before : List CertRecord) → IsSettling g before a w c group
+    → CoversRest g before c.space group → Stops g before old new error
+
+-- What the calls of a claim are given, apart from the lines, also before its group names anything.
+pub record FitsBegun (a : AskerView) (w : WindowView) (c : CoveringView) (group : GroupView) : Type 0 where
   pub limit : 1 ≤ a.limit
   pub variables : a.log.variables ≡ length c.space.meanings
   pub window : w.variables ≡ length c.space.meanings
   pub from_one : 1 ≤ group.claimed
   pub upto : group.claimed ≤ length c.space.repository.packages
   pub present : group.present ≡ variable_of c.space (Present (group.claimed - 1))
-  pub named : AreFromOne group.named
-  pub some : length group.named ≡ 0 → 1 ≤ w.count
-  pub left : All (IsPairVariable c.space (slice_index c.space.cluster_of (group.claimed - 1))) group.left
   pub refuted : All (IsPairVariable c.space (slice_index c.space.cluster_of (group.claimed - 1))) group.refuted
   pub undecided : All (IsPairVariable c.space (slice_index c.space.cluster_of (group.claimed - 1))) group.undecided
 
--- an installation was added as the latest one, with the clusters that it uses
-pub record IsAdded (c d : ChallengedView) (w v : WindowView) (values : List Bool) : Type 0 where
-  pub used : List ℕ
-  pub are_used : AreUsed c.space values used
-  pub is : d ≡ record c { uses = keep_last REACH (c.uses ++ used ∷ []) }
-  pub window : v ≡ record w { kept = keep_last REACH (w.kept ++ values ∷ []); count = w.count + 1 }
-
--- it struck the pairs that it covers
-pub record IsStruck (d : ChallengedView) (v : WindowView) (group h : GroupView) : Type 0 where
-  pub kept : IsKept v v.count
-  pub is : h ≡ record group {
-    left = filter (λ at. not (covered_by d v v.count at)) group.left;
-    undecided = filter (λ at. not (covered_by d v v.count at)) group.undecided;
-  }
-
--- the group of a claim on a package before its first question for a pair
-abbrev pub group_of : ℕ → ℕ → List ℕ → List ℕ → GroupView
-group_of p present named left = record {
-  claimed = p;
-  present = present;
-  named = named;
-  left = left;
-  refuted = [];
-  undecided = [];
-}
-
--- The group is that of a known installation of today.
-pub record IsKnownGroup (c : ChallengedView) (w : WindowView) (p present : ℕ) (group : GroupView) : Type 0 where
-  pub today : ℕ
-  pub strikers : List ℕ
-  pub left : List ℕ
-  pub from_one : 1 ≤ today
-  pub kept : IsKept w today
-  pub has : value_of (kept_at w today) present ≡ true
-  pub now : value_of (kept_at w today) 1 ≡ true
-  pub lasts : Lasts w (length left) today
-  pub plan : IsPlan c w present (slice_index c.space.cluster_of (p - 1)) today 0 strikers left
-  pub is : group ≡ group_of p present (strikers ++ today ∷ []) left
-
--- The group is that of the latest installation, which is of today.
-pub record IsFoundGroup (c : ChallengedView) (w : WindowView) (p present : ℕ) (group : GroupView) : Type 0 where
-  pub strikers : List ℕ
-  pub left : List ℕ
-  pub plan : IsPlan c w present (slice_index c.space.cluster_of (p - 1)) w.count 0 strikers left
-  pub is : group ≡ group_of p present strikers left
+-- What the calls of a group are given, apart from the lines.
+pub record FitsGroup (a : AskerView) (w : WindowView) (c : CoveringView) (group : GroupView) : Type 0 where
+  pub begun : FitsBegun a w c group
+  pub named : AreFromOne group.named
+  pub some : length group.named ≡ 0 → 1 ≤ w.count
+  pub left : All (IsPairVariable c.space (slice_index c.space.cluster_of (group.claimed - 1))) group.left
 
 -- the installations that a claim names: the latest one where no other is to be named
 abbrev pub names_of : WindowView → List ℕ → List ℕ

@@ -1,6 +1,3 @@
-pub mod FuturesPrivate
-pub mod OutdatedPrivate
 pub mod ChallengedPrivate
-pub mod UsedPrivate
-pub mod CoverPrivate
 pub mod GroupPrivate
+pub mod BegunPrivate

@@ -1,21 +1,20 @@
-//! The sweeps for the futures: which packages are outdated, and which later versions challenge a package.
+//! The sweep for challenges: which later versions challenge a package.
 //!
-//! `sweeps.rt` takes the space and its clauses from dist_subject; dist_sweep makes the file and asks for each claim.
-//! `outdated_claimant.rt` keeps for each package the latest installation that holds it, so that a package is asked for only where
-//! that is none that a claim may reach.
+//! `sweep.rt` takes the space and its clauses from dist_subject; dist_sweep makes the file and asks for each claim.
+//! `challenged_claimant.rt` makes the claim on a package by an installation of today, known or asked for (`today.rt`). What the claim
+//! names, and which pairs of a cluster and a class are left, dist_covering says; each pair that is left is asked for once (`settling.rt`).
 //!
-//! `challenged_claimant.rt` makes the claim on a package by an installation of today, known or asked for. That alone may leave
-//! pairs of a cluster and a class uncovered, of the clusters that it uses (`used.rt`); the latest installations strike those that
-//! they cover (`covering.rt`), and each pair that is left is asked for once (`settling.rt`, `group.rt`).
+//! An installation of today may be as large as the archive, where one package needs the next. So that not each package writes one
+//! of its own, nor goes through all pairs of it, `planning.rt` of dist_covering takes the pairs from a small installation that is found
+//! for the first of them, and `today.rt` guesses at an installation of today that holds the next packages too (`ahead.rt` says when).
+//! `asking.rt` has the question of two variables.
 #![tactic(auto)]
 
+mod ahead;
+mod asking;
 mod challenged_claimant;
-mod covering;
-mod group;
-mod outdated_claimant;
 mod settling;
-mod sweeps;
-mod used;
-mod words;
+mod sweep;
+mod today;
 
-pub use sweeps::{challenged, outdated};
+pub use sweep::challenged;

@@ -169,3 +169,10 @@ uninstallable-kind p = record { no_clause = refl; no_installation = refl; no_end
 
 pub unknown-kind : (p : ℕ) → IsClaimLine (Unknown p)
 unknown-kind p = record { no_clause = refl; no_installation = refl; no_end = refl; claims = refl; one = refl }
+
+-- a line that is no installation adds none
+pub same-installed : (lines : List CertRecord) (step : CertRecord) → installed_in step ≡ []
+    → installations (lines ++ step ∷ []) ≡ installations lines
+same-installed lines step none =
+    installations-append lines (step ∷ []) ∙ ap (λ (ms : List (List ℕ)). installations lines ++ (ms ++ [])) none ∙
+    append-nil (installations lines)

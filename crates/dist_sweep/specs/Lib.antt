@@ -11,3 +11,6 @@ pub mod ScriptLaws
 pub mod QuestionLinesLaws
 pub mod WindowLaws
 pub mod ClaimLinesLaws
+pub mod AskedLaws
+pub mod Futures
+pub mod FuturesLaws

@@ -11,8 +11,9 @@ ghost use Rattle.dist_trial.specs.Trial.{AreSwept, IsStoppedAt, SweptAnswers, Te
 
 use dist_base::DEFAULT_LIMIT;
 use dist_cert::{CertKind, Claims};
-use dist_challenge::{challenged, outdated};
+use dist_challenge::challenged;
 use dist_check::{Verdict, check, texts_have_one_answer, texts_have_one_verdict};
+use dist_outdated::outdated;
 use dist_outside::{Limits, MemoryDesk, WorkError};
 use dist_repo::{Repository, latest_is_one};
 use dist_strong::strong;

@@ -1,8 +1,12 @@
-//! Trials, each twice: the three sweeps and checks of an archive; and a package with more installations than a claim may name. Those
-//! of larger archives take some 20 seconds as the gate builds them; `rt try`, which builds with checks, is hundreds of times slower,
-//! so they stand apart from the other tests.
+//! Trials, each twice: the three sweeps and checks of an archive. And by the top call, a package with more installations than a claim may
+//! name, and packages with large installations. Trials of larger archives take some 20 seconds as the gate builds them; `rt try`, which
+//! builds with checks, is hundreds of times slower, so they stand apart from the other tests.
 #![tactic(auto)]
 
+#[cfg(test)]
+mod commands;
+#[cfg(test)]
+mod large_installations;
 #[cfg(test)]
 mod many_installations;
 

@@ -1,5 +1,6 @@
 use Rattle.std.proofs.Common.{◌≡◌, map, take}
-use Rattle.dist_challenge.specs.UsedPrivate.{AreSmallPairs, pair_at}
+use Rattle.dist_covering.specs.Used.{pair_at}
+use Rattle.dist_challenge.specs.GroupPrivate.{AreSmallPairs}
 use Rattle.dist_challenge.proofs.challenged_claimant.pairs_of.Given as goal
 
 abbrev pub invariant-loop-at : goal.invariant-loop-at

@@ -1,0 +1,2 @@
+mod UsedSteps
+mod CoverSteps

@@ -1,0 +1,5 @@
+mod LaterKinds
+mod Starts
+mod ClaimLines
+mod LatestSteps
+mod OutdatedSteps
