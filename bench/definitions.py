@@ -157,7 +157,7 @@ CHAPTERS = [
     ("Files that are judged line by line", ["dist_judge"]),
     ("What certificates speak of, and what their claims mean", ["dist_subject", "dist_check"]),
     ("What a question answers", ["dist_solver"]),
-    ("What a sweep may write, and how much that is", ["dist_sweep", "dist_strong", "dist_challenge", "dist_budget"]),
+    ("What a sweep may write, and how much that is", ["dist_sweep", "dist_strong", "dist_outdated", "dist_covering", "dist_challenge", "dist_budget"]),
     ("What the checker keeps", ["dist_check_group", "dist_check_state"]),
     ("Reports", ["dist_report", "dist_history"]),
     ("Made archives, and trials on them", ["dist_generate", "dist_trial"]),

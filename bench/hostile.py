@@ -246,12 +246,17 @@ def chain(n, first):
     return "".join(stanza(f"p{k:06}", more=f"Depends: p{k + 1:06}\n" if k < n - 1 else "") for k in range(n))
 
 
-def star(n, bound=""):
-    return stanza("c") + "".join(stanza(f"p{k:06}", more=f"Depends: c{bound}\n") for k in range(n - 1))
+def star(n, bound="", told=""):
+    return stanza("c") + "".join(stanza(f"p{k:06}", more=f"Depends: c{bound}\n{told}") for k in range(n - 1))
 
 
 def wide_star(n):
     return stanza("c", more="Depends: " + ", ".join(f"p{k:06}" for k in range(n - 1)) + "\n") + "".join(stanza(f"p{k:06}") for k in range(n - 1))
+
+
+def behind_a_large_one(n, more=""):
+    """So many packages, behind one that needs 1,100 others."""
+    return wide_star(1_101).replace("Package: c\n", "Package: q\n") + "".join(stanza(f"r{k:06}", more=more) for k in range(n - 1_101))
 
 
 def one_source(n):
@@ -279,10 +284,19 @@ def mixed(n, width=0):
     return "".join(texts)
 
 
+def filled(text, n):
+    """A file of just so many bytes: a field of its last stanza has those that are missing."""
+    return text[:-1] + "X-Fill: " + "x" * (n - len(text) - 8) + "\n"
+
+
 def of_bytes(n):
     """A file of just so many bytes, with a stanza for each 1,343 of them."""
-    text = mixed(n // 1343, 1240)
-    return text[:-1] + "X-Fill: " + "x" * (n - len(text) - 8) + "\n"
+    return filled(mixed(n // 1343, 1240), n)
+
+
+def star_of_bytes(n):
+    """The same, where each package needs one of them."""
+    return filled(star(n // 1343, told="Description: " + "x" * 1270 + "\n"), n)
 
 
 def broken_chain(n):
@@ -329,15 +343,18 @@ def last_named(text):
 
 # The size, the file, and of each command the power of the size with which its certificate grows, where that is not 1.
 LOADS = {
-    "a chain of so many, its end first": (200_000, lambda n: chain(n, "end"), {"outdated": 1, "challenged": 1}),
+    "a chain of so many, its end first": (200_000, lambda n: chain(n, "end"), {}),
     "a chain of so many, its head first": (200_000, lambda n: chain(n, "head"), {}),
     "a star of so many": (200_000, star, {}),
     "a star of so many, with a bound": (200_000, lambda n: star(n, " (<< 2)"), {}),
     "one that needs so many": (200_000, wide_star, {}),
+    "so many loose ones behind one that needs 1,100": (200_000, behind_a_large_one, {}),
+    "so many broken ones behind one that needs 1,100": (200_000, lambda n: behind_a_large_one(n, "Depends: nowhere\n"), {}),
     "so many of one source": (200_000, one_source, {}),
     "so many conflicts on a name that as many provide": (2_000, all_against_all, {kind: 2 for kind in ("health", "strong", "outdated", "challenged", "explain", "repair", "check")}),
     "so many mixed ones": (200_000, mixed, {}),
     "a file of so many bytes": (268_435_456, of_bytes, {}),
+    "a star in a file of so many bytes": (268_435_456, star_of_bytes, {}),
 }
 SWEEPS = ("strong", "outdated", "challenged")
 # Files in which one package is asked for: the size, the file, the command with its options, and the power with which its certificate grows.
