@@ -65,6 +65,13 @@ def futures(packages):
     return ["bench", "count-future-clauses", "packages"], packages, ""
 
 
+# A journal over a file, with a certificate of `outdated`, which is small.
+def followed(packages, uploads):
+    """uploads: pairs of a name and the fields that its stanza has besides."""
+    journal = "".join(f"= upload {name} {k + 2}\n{stanza(name, k + 2, more)}" for k, (name, more) in enumerate(uploads))
+    return ["follow", "packages", "cert", "list"], packages, journal, ["outdated", "packages", "cert"]
+
+
 # ---- the files
 
 def asked_by_many(n):
@@ -221,6 +228,10 @@ ROWS = {
     "a package in so many conflicts, installed again and again": (20_000, lambda n: checked(*installed_again(n))),
     "one new line that reaches a chain of so many": (100_000, lambda n: checked(*chained(n))),
     "so many questions, each with a new line": (80_000, lambda n: checked(*new_again(n))),
+    "so many uploads to one source of as many packages": (20_000, lambda n: followed(
+        "".join(stanza(f"p{k:06}", more="Source: s\n") for k in range(n // 2)), [("p000000", "Source: s\n")] * (n // 2))),
+    "so many uploads to one package of as many entries, each with the last of them": (20_000, lambda n: followed(
+        stanza("p", more="Provides: " + ", ".join(f"e{k}" for k in range(n // 2)) + "\n"), [("p", f"Provides: e{n // 2 - 1}\n")] * (n // 2))),
     "the classes of one entry told again and again": (8_000, lambda n: classes(
         stanza("libx", more="Provides: " + ", ".join(["a (= 1)"] * n) + "\n") + stanza("p", more="Conflicts: " + ", ".join(f"a (>= {k})" for k in range(n)) + "\n"))),
     "the clauses of futures of so many entries": (8_000, lambda n: futures(many_entries(n))),

@@ -1,10 +1,12 @@
 -- The first entry that fits may be taken each time: what is carried at all is carried so.
 use Rattle.std.proofs.Common.{◌≡◌, ◌↔◌, ℕ, zero, suc, ◌+◌, true, false, List, [], ◌∷◌, Some, drop, length}
-use Rattle.std.proofs.Common.{◌≤◌, ◌-◌, arith, refl, sym, ap, subst, ◌∙◌, slice_get, add-one}
+use Rattle.std.proofs.Common.{◌≤◌, ◌-◌, arith, refl, sym, ap, subst, ◌∙◌, inl, inr, slice_get, add-one, add-zero}
+use Rattle.std.proofs.lemmas.Bool.{cases_lt}
 use Rattle.std.proofs.lemmas.List.{length-drop}
+use Rattle.dist_base.specs.ListLaws.{element-at}
 use Rattle.dist_relation.specs.declared.atom.Provide.{Provide}
 use Rattle.dist_classes.specs.NewVersion.{AreCarried, IsCarried}
-use Rattle.dist_archive.specs.CarriedPrivate.{CanCarry, IsVersionCarried}
+use Rattle.dist_archive.specs.CarriedPrivate.{CanCarry, IsCarriedFrom, IsVersionCarried}
 
 -- the rest of a list behind a place
 pub drop-at : {X : Type 0} (xs : List X) (k : ℕ) (x : X) → slice_get xs k ≡ Some x → drop k xs ≡ x ∷ drop (k + 1) xs
@@ -118,3 +120,40 @@ module _ (old new : List ℕ) where
         let none : length carried - place ≡ 0 = sym (length-drop place carried) ∙ ap (λ (rest : List Provide). length rest) left in
         omega (arith, none, within),
   )
+
+  -- ---- by guesses
+
+  skipped : (entries carried : List Provide) (d n : ℕ) → CanCarry old new (drop (n + d) entries) carried → CanCarry old new (drop n entries) carried
+  skipped entries carried zero n can = rw add-zero at can
+  skipped entries carried (suc d) n can =
+      let one : n + suc d ≡ (n + d) + 1 = omega arith in
+      let later : CanCarry old new (drop ((n + d) + 1) entries) carried = subst (λ k. CanCarry old new (drop k entries) carried) one can in
+      skipped entries carried d n (elim (cases_lt (n + d) (length entries)) [
+        | inl short ↦
+            let at = element-at entries (n + d) short in
+            subst (λ (l : List Provide). CanCarry old new l carried) (sym (drop-at entries (n + d) at.element at.is))
+            (left-out at.element (drop ((n + d) + 1) entries) carried later)
+        | inr past ↦
+            subst (λ (l : List Provide). CanCarry old new l carried) (drop-past entries ((n + d) + 1) (omega (arith, past)) ∙ sym (drop-past entries (n + d)
+            past)) later
+      ])
+
+  pub found-more : (entries carried : List Provide) (number from behind : ℕ) (c : Provide) → slice_get carried number ≡ Some c
+      → IsCarriedFrom old new entries c from behind
+      → (CanCarry old new (drop from entries) (drop number carried) → CanCarry old new entries carried)
+      → CanCarry old new (drop behind entries) (drop (number + 1) carried) → CanCarry old new entries carried
+  found-more entries carried number from behind c is found before can =
+      let rest : CanCarry old new (drop (found.place + 1) entries) (drop (number + 1) carried) =
+      subst (λ k. CanCarry old new (drop k entries) (drop (number + 1) carried)) found.next can in
+      let here : CanCarry old new (drop found.place entries) (drop number carried) =
+      subst (λ (l : List Provide). CanCarry old new l (drop number carried)) (sym (drop-at entries found.place found.entry found.is))
+      (subst (λ (l : List Provide). CanCarry old new (found.entry ∷ drop (found.place + 1) entries) l) (sym (drop-at carried number c is))
+      ((taken found.entry (drop (found.place + 1) entries) c (drop (number + 1) carried) found.fits).1 rest)) in
+      let gap : from + (found.place - from) ≡ found.place = omega (arith, found.later) in
+      before (skipped entries (drop number carried) (found.place - from) from
+      (subst (λ k. CanCarry old new (drop k entries) (drop number carried)) (sym gap) here))
+
+  pub all-found : (entries carried : List Provide) (number from : ℕ) → length carried ≤ number
+      → (CanCarry old new (drop from entries) (drop number carried) → CanCarry old new entries carried) → CanCarry old new entries carried
+  all-found entries carried number from past before =
+      before (subst (λ (l : List Provide). CanCarry old new (drop from entries) l) (sym (drop-past carried number past)) (nothing-carried (drop from entries)))

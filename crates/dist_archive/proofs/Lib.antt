@@ -11,6 +11,7 @@ pub mod ClusterLemmas
 pub mod OrderLemmas
 pub mod UploadLemmas
 pub mod MadeLemmas
+pub mod MembersLemmas
 pub mod RefusalLemmas
 pub mod FitLemmas
 pub mod LeadLemmas

@@ -1,7 +1,7 @@
 -- What an upload leaves.
-use Rattle.std.proofs.Common.{◌≡◌, ◌≢◌, ◌⊎◌, ℕ, zero, suc, ◌+◌, ◌<◌, List, [], ◌∷◌, ◌++◌, Some, None, Ordering, Less, Equal, length, get_or, set}
+use Rattle.std.proofs.Common.{◌≡◌, ◌≢◌, ◌⊎◌, ℕ, zero, suc, ◌+◌, ◌<◌, List, [], ◌∷◌, ◌++◌, true, Some, None, Ordering, Less, Equal, length, get_or, set}
 use Rattle.std.proofs.Common.{refl, sym, ap, subst, ◌∙◌, inl, inr, arith, nat_cmp, slice_get}
-use Rattle.std.specs.Prelude.{Contains}
+use Rattle.std.specs.Prelude.{Contains, IsTrue}
 use Rattle.std.specs.Cmp.Lexicographic.{slice_cmp}
 use Rattle.std.specs.Ordering.{ordering_then}
 use Rattle.std.proofs.lemmas.Bool.{cases_eq, cases_lt}
@@ -18,8 +18,8 @@ use Rattle.dist_classes.specs.NewVersion.{IsNewOf}
 use Rattle.dist_classes.specs.VersionOrderLaws.{alike-left, equal-back}
 use Rattle.dist_space.specs.Space.{SpaceView}
 use Rattle.dist_future.specs.Future.{IsInClusterOf}
-use Rattle.dist_archive.specs.SlotsPrivate.{AreReplacements, IsKept, Replaces, puts, slot_package, standing}
-use Rattle.dist_archive.specs.Steps.{IsClusterName, IsOfCluster, IsUploaded, Uploads}
+use Rattle.dist_archive.specs.SlotsPrivate.{AreReplacements, IsKept, Replaces, is_filled, puts, slot_package, standing}
+use Rattle.dist_archive.specs.Steps.{IsClusterName, IsHeld, IsOfCluster, IsUploaded, Uploads}
 use Rattle.dist_archive.specs.UploadsPrivate.{IsChecked}
 use Rattle.dist_archive.specs.declared.slots.Slot.{Slot}
 use Rattle.dist_archive.specs.declared.slots.Slot.TheVariants.{Kept, Gone, New}
@@ -86,6 +86,12 @@ replaced-holds block q Kept n replaces there name one = absurd replaces
 replaced-holds block q Gone n replaces there name one = absurd (replaces (any-contained (λ (x : Package). x.name ≡ q.name) block n there name))
 replaced-holds block q (New copy) n replaces there name one = ap (λ (x : Package). Some x) (one copy.value replaces.0 (replaces.1 ∙ sym name))
 
+-- what holds something is filled
+pub holds-filled : (q : Package) (slot : Slot) (n : Package) → slot_package q slot ≡ Some n → is_filled slot ≡ true
+holds-filled q Kept n is = refl
+holds-filled q Gone n is = absurd (let no-one : None ≡ Some n = is in cc)
+holds-filled q (New copy) n is = refl
+
 -- ---- one package of a name in a block at one version
 
 same-version : (a b v : List ℕ) → version_cmp a v ≡ Equal → version_cmp b v ≡ Equal → version_cmp a b ≡ Equal
@@ -123,12 +129,15 @@ one-at-version packages version ordered p q first second name at_p at_q =
 module _ (s : SpaceView) (slots : List Slot) (names : List Package) (kept : IsKept s slots names) (cluster : ℕ) (c : Package) (of : IsOfCluster s cluster c)
     (members : List ℕ) (are : slice_get s.clusters.members cluster ≡ Some members) (version : List ℕ) (block : PackageList)
     (checked : IsChecked s.repository (standing s.repository.packages slots ++ names) c version block) (ordered : IsInOrder block.packages)
-    (put : List Slot) (replaced : AreReplacements s.repository.packages block.packages members put) where
+    (numbers : List ℕ) (within : (k : ℕ) → Contains numbers k → Contains members k)
+    (brings : (k : ℕ) (q : Package) → slice_get s.repository.packages k ≡ Some q → IsHeld block.packages q.name → Contains numbers k)
+    (others : (k : ℕ) (slot : Slot) → Contains members k → slice_get slots k ≡ Some slot → IsTrue (is_filled slot) → Contains numbers k)
+    (put : List Slot) (replaced : AreReplacements s.repository.packages block.packages numbers put) where
   abbrev all : List Package
   all = standing s.repository.packages slots ++ names
 
   abbrev left : List Slot
-  left = puts members put slots
+  left = puts numbers put slots
 
   abbrev rest : List Package
   rest = standing s.repository.packages left ++ names
@@ -136,14 +145,14 @@ module _ (s : SpaceView) (slots : List Slot) (names : List Package) (kept : IsKe
   flat : IsFlat s.repository.packages
   flat = kept.space.frame.flat
 
-  replaced-at : (k : ℕ) (q : Package) (slot : Slot) → slice_get s.repository.packages k ≡ Some q → IsPut members put k slot → Replaces block.packages q slot
+  replaced-at : (k : ℕ) (q : Package) (slot : Slot) → slice_get s.repository.packages k ≡ Some q → IsPut numbers put k slot → Replaces block.packages q slot
   replaced-at k q slot own at = replaced.each at.place k q slot at.number own at.is
 
-  put-there : (k : ℕ) (slot : Slot) → IsPut members put k slot → Contains members k
-  put-there k slot at = contains-at members at.place k at.number
+  put-there : (k : ℕ) (slot : Slot) → IsPut numbers put k slot → Contains members k
+  put-there k slot at = within k (contains-at numbers at.place k at.number)
 
   left-named : AreNamed s.repository.packages left
-  left-named k p slot n own is holds = elim (puts-cases members put slots k slot replaced.beside is) [
+  left-named k p slot n own is holds = elim (puts-cases numbers put slots k slot replaced.beside is) [
     | inl at ↦ (replaced-by block.packages p slot n (replaced-at k p slot own at) holds).1
     | inr before ↦ kept.named k p slot n own before.1 holds
   ]
@@ -158,16 +167,16 @@ module _ (s : SpaceView) (slots : List Slot) (names : List Package) (kept : IsKe
       let q : Package = made.0.0 in
       let fresh : IsNewOf q n = made.0.2 in
       let at = place-of s.repository.packages q made.0.1.there in
-      let member = in-member s kept.space.frame cluster c of members are at.place q at.is made.0.1 in
-      let count = length-puts members put slots in
+      let there_too = brings at.place q at.is (any-contained (λ (x : Package). x.name ≡ q.name) block.packages n there fresh.1.name) in
+      let count = length-puts numbers put slots in
       let slot = element-at left at.place
       (omega (arith, count, kept.beside, slice_get_within s.repository.packages at.place q at.is)) in
       let one : (x : Package) → Contains block.packages x → x.name ≡ n.name → x ≡ n = λ x inside name.
       one-at-version block.packages version ordered x n inside there name (uploaded x inside).1 made.1 in
       let holds : slot_package q slot.element ≡ Some n =
-      elim (puts-cases members put slots at.place slot.element replaced.beside slot.is) [
+      elim (puts-cases numbers put slots at.place slot.element replaced.beside slot.is) [
         | inl here ↦ replaced-holds block.packages q slot.element n (replaced-at at.place q slot.element at.is here) there fresh.1.name one
-        | inr before ↦ absurd (before.0 member)
+        | inr before ↦ absurd (before.0 there_too)
       ] in
       Contains-append_left (standing s.repository.packages left) names n
       (stands s.repository.packages left at.place q slot.element n at.is slot.is holds)
@@ -183,10 +192,10 @@ module _ (s : SpaceView) (slots : List Slot) (names : List Package) (kept : IsKe
           member-in s kept.space.frame cluster c of members are at.number at.own at.is_own member,
           sym name,
         ) in
-        let count = length-puts members put slots in
+        let count = length-puts numbers put slots in
         let slot = element-at left at.number (omega (arith, count, slice_get_within slots at.number at.slot at.is_slot)) in
         let holds : slot_package at.own slot.element ≡ Some n =
-        elim (puts-cases members put slots at.number slot.element replaced.beside slot.is) [
+        elim (puts-cases numbers put slots at.number slot.element replaced.beside slot.is) [
           | inl here ↦ absurd (no_member (put-there at.number slot.element here))
           | inr before ↦ ap (slot_package at.own) (same-at slots at.number slot.element at.slot before.1 at.is_slot) ∙ at.holds
         ] in
@@ -201,7 +210,7 @@ module _ (s : SpaceView) (slots : List Slot) (names : List Package) (kept : IsKe
     | inl stood ↦
         let at = stands-from s.repository.packages left n stood in
         let name : n.name ≡ at.own.name = left-named at.number at.own at.slot n at.is_own at.is_slot at.holds in
-        elim (puts-cases members put slots at.number at.slot replaced.beside at.is_slot) [
+        elim (puts-cases numbers put slots at.number at.slot replaced.beside at.is_slot) [
           | inl here ↦ inl (replaced-by block.packages at.own at.slot n (replaced-at at.number at.own at.slot at.is_own here) at.holds).0
           | inr before ↦ inr (
             Contains-append_left (standing s.repository.packages slots) names n
@@ -209,8 +218,8 @@ module _ (s : SpaceView) (slots : List Slot) (names : List Package) (kept : IsKe
             λ of_cluster.
                 let same : of_cluster.0 ≡ at.own = one-named s.repository.packages of_cluster.0 at.own flat of_cluster.1.there
                 (contains-at s.repository.packages at.number at.own at.is_own) (of_cluster.2 ∙ name) in
-                before.0 (in-member s kept.space.frame cluster c of members are at.number at.own at.is_own
-                (subst (λ (x : Package). IsInClusterOf s.repository c x) same of_cluster.1)),
+                before.0 (others at.number at.slot (in-member s kept.space.frame cluster c of members are at.number at.own at.is_own
+                (subst (λ (x : Package). IsInClusterOf s.repository c x) same of_cluster.1)) before.1 (holds-filled at.own at.slot n at.holds)),
           )
         ]
     | inr new ↦ inr (
@@ -246,7 +255,7 @@ module _ (s : SpaceView) (slots : List Slot) (names : List Package) (kept : IsKe
       let count = length-append block.packages all in
       record {
         space = kept.space;
-        beside = length-puts members put slots ∙ kept.beside;
+        beside = length-puts numbers put slots ∙ kept.beside;
         named = left-named;
         flat = kept.flat;
         untaken = kept.untaken;

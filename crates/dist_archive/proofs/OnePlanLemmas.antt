@@ -4,7 +4,7 @@ use Rattle.std.proofs.Common.{subst, ◌∙◌, inl, inr, arith, length, slice_g
 use Rattle.std.specs.Prelude.{Contains}
 use Rattle.std.specs.Ordering.{ordering_reverse}
 use Rattle.dist_base.specs.ListLaws.{any-more, has-at, here-at, pairs-head, pairs-tail, same-at}
-use Rattle.dist_repo.specs.Order.{IsInOrder, package_cmp}
+use Rattle.dist_repo.specs.Order.{IsInOrder}
 use Rattle.dist_repo.specs.PackageList.{IsPackageAnd, PackageList}
 use Rattle.dist_repo.specs.TotalLaws.{package_total}
 use Rattle.dist_repo.specs.declared.package.Package.{Package}

@@ -6,6 +6,7 @@ pub mod AnswersPrivate
 pub mod UploadsPrivate
 pub mod BringingPrivate
 pub mod SlotsPrivate
+pub mod MembersPrivate
 pub mod CarriedPrivate
 pub mod StepExamples
 pub mod Reach

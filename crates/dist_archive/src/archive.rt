@@ -10,7 +10,9 @@ ghost use Rattle.dist_archive.specs.AnswersPrivate.{IsNeverRefused, IsOnlyRefusa
 ghost use Rattle.dist_archive.specs.Steps.{IsHeld, Makes};
 ghost use Rattle.dist_archive.specs.declared.step.StepError.{StepError};
 
+use crate::entry_places::EntryPlaces;
 use crate::finding::number_named;
+use crate::members::Held;
 use crate::new_names::NewNames;
 use crate::slots::{Slot, Slots};
 use crate::step::{Step, StepError};
@@ -26,18 +28,21 @@ pub struct Archive {
     pub(crate) space: Space,
     pub(crate) slots: Slots,
     pub(crate) names: NewNames,
+    pub(crate) held: Held,
+    pub(crate) places: EntryPlaces,
 }
 
 impl Model for Archive {
     ghost use Rattle.std.specs.Prelude.{◌++◌};
     ghost use Rattle.dist_archive.specs.Archive.{ArchiveView};
-    ghost use Rattle.dist_archive.specs.SlotsPrivate.{IsKept, standing};
+    ghost use Rattle.dist_archive.specs.MembersPrivate.{IsArchive};
+    ghost use Rattle.dist_archive.specs.SlotsPrivate.{standing};
 
     ghost Value = { ArchiveView };
 
     ghost view = { λ a. record { space = a.space; packages = standing a.space.repository.packages a.slots ++ a.names } };
 
-    ghost invariant = { λ a. IsKept a.space a.slots a.names };
+    ghost invariant = { λ a. IsArchive a.space a.slots a.names a.held };
 }
 
 /// An archive that holds the packages of a space's repository. After a refusal the space is given up.
@@ -48,11 +53,15 @@ pub fn start(alloc: Global, space: Space) -> Result<Archive, AllocError>
     let _variables = space.variables();
     let _repo = space.repo();
     let slots = Slots::new(alloc, space.package_count())?;
+    let held = Held::new(alloc, space.clusters().len())?;
+    let places = EntryPlaces::new(alloc, space.repo())?;
     Ok(Archive {
         alloc,
         space,
         slots,
         names: NewNames::new(alloc),
+        held,
+        places,
     })
 }
 

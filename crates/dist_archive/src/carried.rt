@@ -1,11 +1,12 @@
 //! Whether a package is a new version of another one, by what it provides.
 ghost use Rattle.std.specs.Bool.{OnTrue};
-ghost use Rattle.std.specs.Prelude.{◌≡◌, ◌≤◌, ◌↔◌, ◌∷◌, IsSomeAnd, IsTrue, List, drop, length};
+ghost use Rattle.std.specs.Prelude.{◌≡◌, ◌≤◌, ◌↔◌, ◌∷◌, IfSome, IsSomeAnd, IsTrue, List, drop, length};
 ghost use Rattle.dist_relation.specs.declared.atom.Provide.{Provide};
 ghost use Rattle.dist_version.specs.Spelling.{IsVersion};
 ghost use Rattle.dist_classes.specs.NewVersion.{IsAt, IsCarried, IsNewOf};
-ghost use Rattle.dist_archive.specs.CarriedPrivate.{CanCarry, IsVersionCarried};
+ghost use Rattle.dist_archive.specs.CarriedPrivate.{CanCarry, IsCarriedFrom, IsVersionCarried};
 
+use crate::entry_places::guess;
 use dist_relation::{Provide, Provides};
 use dist_repo::Package;
 use dist_version::Version;
@@ -83,11 +84,49 @@ fn are_carried(old: &Version, new: &Version, entries: &Provides, carried: &Provi
     place == carried.len()
 }
 
-/// Whether a package is a new version of another one.
-pub(crate) fn is_new_of(old: &Package, new: &Package) -> bool
+/// The place behind the entry that is carried as this one, where a guess from a place on finds it.
+fn place_behind(
+    old: &Package,
+    new: &Version,
+    carried: &Provide,
+    places: &[u32],
+    from: usize,
+) -> Option<usize>
+    requires { from ≤ length old.now.provides }
+    ensures { IfSome result (λ behind. IsCarriedFrom old.now.version new.now old.now.provides carried.now from behind) }
+{
+    let place = guess(places, old, new, carried, from)?;
+    if place < from || place >= old.provides.len() {
+        return None;
+    }
+    if !is_carried(&old.version, new, old.provides.get(place), carried) {
+        return None;
+    }
+    Some(place + 1)
+}
+
+/// Whether guesses find for each entry of a new version one that is carried as it, in their order.
+fn are_found(old: &Package, new: &Package, places: &[u32]) -> bool
+    ensures { OnTrue result (CanCarry old.now.version new.now.version old.now.provides new.now.provides) }
+{
+    let mut from = 0;
+    for number in 0..new.provides.len() {
+        match place_behind(old, &new.version, new.provides.get(number), places, from) {
+            Some(behind) => from = behind,
+            None => return false,
+        }
+    }
+    true
+}
+
+/// Whether a package is a new version of another one. Guesses by the places of its entries may find those that are carried; where they
+/// don't, all of its entries are walked.
+pub(crate) fn is_new_of(old: &Package, new: &Package, places: &[u32]) -> bool
     ensures { IsTrue result ↔ IsNewOf old.now new.now }
 {
     // What this call tells is that the text is a version's.
     let _text = new.version.text();
-    new.name == old.name && are_carried(&old.version, &new.version, &old.provides, &new.provides)
+    new.name == old.name
+        && (are_found(old, new, places)
+            || are_carried(&old.version, &new.version, &old.provides, &new.provides))
 }

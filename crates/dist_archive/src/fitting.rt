@@ -51,7 +51,7 @@ fn is_later(space: &Space, number: u32, fresh: &Package) -> bool
 {
     // What this call tells is that it is a space.
     let _variables = space.variables();
-    if !is_new_of(space.package(number), fresh) {
+    if !is_new_of(space.package(number), fresh, &[]) {
         return false;
     }
     is_above_top(space, space.cluster_of(number), &fresh.version)

@@ -2,16 +2,18 @@
 //! packages of new names.
 //!
 //! The steps are defined in `specs/Steps.antt`, and the reasons to refuse one in `specs/Refusals.antt`. What an archive holds is
-//! always a future of its repository. Names are found by halving and in an ordered map; a step costs what it brings and the
-//! cluster that it names, whatever the archive's size. Packages that stay are not copied.
+//! always a future of its repository. Names are found by halving and in an ordered map; a step costs what it brings and
+//! what it takes away, whatever the sizes of the archive and of the cluster that it names. Packages that stay are not copied.
 #![tactic(auto)]
 
 mod archive;
 mod bringing;
 mod carried;
+mod entry_places;
 mod finding;
 mod fitting;
 mod laws;
+mod members;
 mod moved;
 mod new_names;
 mod plan;

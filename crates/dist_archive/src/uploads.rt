@@ -1,8 +1,9 @@
 //! Uploads: which are refused, and what takes the place of a cluster's packages.
-ghost use Rattle.std.specs.Prelude.{◌≡◌, ◌≢◌, ◌↔◌, ◌+◌, ◌<◌, All, IfErr, IfOk, IfSome, IsTrue, MatchOption, MatchResult, OnErr, OnOk, length};
+ghost use Rattle.std.specs.Prelude.{◌≡◌, ◌≢◌, ◌↔◌, ◌+◌, ◌++◌, ◌<◌, All, IfErr, IfOk, IfSome, IsTrue, MatchOption, MatchResult, OnErr, OnOk, length};
 ghost use Rattle.dist_repo.specs.declared.package.Package.{Package};
 ghost use Rattle.dist_future.specs.Future.{IsAboveCluster, IsFuture};
 ghost use Rattle.dist_archive.specs.AnswersPrivate.{IsNeverRefused, IsOnlyRefusal};
+ghost use Rattle.dist_archive.specs.MembersPrivate.{AreNumbersOf, IsChange, IsNamedBehind};
 ghost use Rattle.dist_archive.specs.Refusals.{IsFirstFault, IsOfOtherArchitecture, IsUploadFault, RefusesUpload};
 ghost use Rattle.dist_archive.specs.SlotsPrivate.{AreReplacements, Replaces};
 ghost use Rattle.dist_archive.specs.Steps.{IsAboveAll, IsClusterName, IsOfCluster, IsUploaded, Uploads};
@@ -10,6 +11,7 @@ ghost use Rattle.dist_archive.specs.UploadsPrivate.{IsAboveHeld, IsChecked, IsMe
 
 use crate::archive::Archive;
 use crate::carried::is_new_of;
+use crate::entry_places::EntryPlaces;
 use crate::finding::number_named;
 use crate::slots::Slot;
 use crate::step::StepError;
@@ -51,13 +53,14 @@ fn check_member(
     number: u32,
     member: &Package,
     uploaded: &Package,
+    places: &[u32],
 ) -> Result<(), StepError>
     ensures { MatchResult result (λ _. IsMemberNew version.now member.now uploaded.now) (IsMemberFault version.now number member.now uploaded.now) }
 {
     if !uploaded.version.compare(version).is_eq() {
         return Err(StepError::NotAtVersion(number));
     }
-    if !is_new_of(member, uploaded) {
+    if !is_new_of(member, uploaded, places) {
         return Err(StepError::WrongProvides(number));
     }
     Ok(())
@@ -66,6 +69,7 @@ fn check_member(
 /// What is wrong with a package of an upload.
 fn check_package(
     space: &Space,
+    places: &EntryPlaces,
     cluster: u32,
     version: &Version,
     number: u32,
@@ -76,7 +80,13 @@ fn check_package(
         (λ error. IsUploadFault space.now.repository c version.now number uploaded.now error) }
 {
     match member_named(space, cluster, uploaded.name.bytes()) {
-        Some(member) => check_member(version, number, space.package(member), uploaded),
+        Some(member) => check_member(
+            version,
+            number,
+            space.package(member),
+            uploaded,
+            places.of(member),
+        ),
         None => Err(StepError::NotMember(number)),
     }
 }
@@ -84,6 +94,7 @@ fn check_package(
 /// What is wrong with the first bad package of an upload.
 fn check_packages(
     space: &Space,
+    places: &EntryPlaces,
     cluster: u32,
     version: &Version,
     block: &Repository,
@@ -93,7 +104,14 @@ fn check_packages(
         (λ error. IsFirstFault space.now.repository c version.now block.now.packages error) }
 {
     for number in 0..block.len() {
-        check_package(space, cluster, version, number, block.package(number))?;
+        check_package(
+            space,
+            places,
+            cluster,
+            version,
+            number,
+            block.package(number),
+        )?;
     }
     Ok(())
 }
@@ -136,6 +154,63 @@ fn replacements(
     Ok(slots)
 }
 
+/// Adds the number of the package of a repository that has a name, if one has.
+fn push_named(repo: &Repository, name: &[u8], numbers: &mut Vec<u32>) -> Result<(), AllocError>
+    ensures { OnOk result (IsNamedBehind repo.now.packages name.now numbers.old.items numbers.new.items) }
+{
+    match number_named(repo, name) {
+        Some(number) => Ok(numbers.push(number)?),
+        None => Ok(()),
+    }
+}
+
+/// The numbers of the packages of a repository whose names a block has.
+fn numbers_of(alloc: Global, repo: &Repository, block: &Repository) -> Result<Vec<u32>, AllocError>
+    ensures { IfOk result (λ numbers. AreNumbersOf repo.now.packages block.now.packages numbers.items) }
+{
+    let mut numbers = Vec::new(alloc);
+    for number in 0..block.len() {
+        push_named(repo, block.package(number).name.bytes(), &mut numbers)?;
+    }
+    Ok(numbers)
+}
+
+/// What an upload changes: the members that it brings, those that it brings or takes away, and the slots of these.
+struct Change {
+    brought: Vec<u32>,
+    touched: Vec<u32>,
+    slots: Vec<Slot>,
+}
+
+/// One list behind another one.
+fn joined(alloc: Global, first: &[u32], second: &[u32]) -> Result<Vec<u32>, AllocError>
+    ensures { IfOk result (λ both. both.items ≡ first.now ++ second.now) }
+{
+    let mut both = Vec::from_slice(alloc, first)?;
+    both.extend_from_slice(second)?;
+    Ok(both)
+}
+
+/// What an upload changes where these members of the cluster may be held.
+fn change_of(
+    alloc: Global,
+    space: &Space,
+    former: &[u32],
+    block: &Repository,
+) -> Result<Change, AllocError>
+    requires { All (λ member. member < length space.now.repository.packages) former.now }
+    ensures { IfOk result (IsChange space.now.repository.packages block.now.packages former.now) }
+{
+    let brought = numbers_of(alloc, space.repo(), block)?;
+    let touched = joined(alloc, former, &brought)?;
+    let slots = replacements(alloc, space, &touched, block)?;
+    Ok(Change {
+        brought,
+        touched,
+        slots,
+    })
+}
+
 impl Archive {
     /// Whether a version is above what is held of the name of a package of the repository, if something is.
     fn is_above_held(&self, member: u32, version: &Version) -> bool
@@ -171,7 +246,10 @@ impl Archive {
         // What this call tells is that it is a space.
         let _variables = space.variables();
         is_above_top(space, cluster, version)
-            && self.is_above_each(space.clusters().members(cluster), version)
+            && self.is_above_each(
+                self.held.of(cluster, space.clusters().members(cluster)),
+                version,
+            )
     }
 
     /// What is wrong with an upload.
@@ -193,7 +271,7 @@ impl Archive {
         if !self.is_above_all(cluster, version) {
             return Err(StepError::NotAbove);
         }
-        check_packages(space, cluster, version, block)
+        check_packages(space, &self.places, cluster, version, block)
     }
 
     /// Makes an upload.
@@ -220,9 +298,16 @@ impl Archive {
         let _variables = self.space.variables();
         let _count = block.len();
         self.check_upload(cluster, version, block)?;
-        let members = self.space.clusters().members(cluster);
-        let slots = replacements(self.alloc, &self.space, members, block)?;
-        self.slots.put_all(members, slots);
+        let former = self
+            .held
+            .of(cluster, self.space.clusters().members(cluster));
+        let Change {
+            brought,
+            touched,
+            slots,
+        } = change_of(self.alloc, &self.space, former, block)?;
+        self.slots.put_all(&touched, slots);
+        self.held.put(cluster, brought);
         Ok(())
     }
 }

@@ -20,7 +20,7 @@ insert-requires c =
     let held : List Package = standing c.self.inside.space.repository.packages c.self.inside.slots ++ c.self.inside.names in
     let block = subst (λ (v : ArchiveView). IsFreeBlock v.space.repository v.packages c.args.block.now) (sym c.self.view_is) c.in_ok-check_block.ensures in
     let free = brought-one c.self.inside.space.repository held c.args.block.now c.package.result.now block c.package.ensures in
-    λ there. free.unheld ((held-new c.self.inside.space c.self.inside.slots c.self.inside.names c.self.invariant c.package.result.now.name
+    λ there. free.unheld ((held-new c.self.inside.space c.self.inside.slots c.self.inside.names c.self.invariant.kept c.package.result.now.name
     free.untaken).1 there)
 
 pub invariant_of-self-2 : goal.invariant_of-self-2
@@ -30,8 +30,11 @@ invariant_of-self-2 c =
     let free = brought-one c.self.inside.space.repository held c.args.block.now c.package.result.now block c.package.ensures in
     let one = ap (λ (l : List Package). length l) block.one in
     let few = subst (λ (v : ArchiveView). length v.packages + length c.args.block.now.packages < 4294967295) (sym c.self.view_is) c.requires in
-    (new-come c.self.inside.space c.self.inside.slots c.self.inside.names c.self.invariant c.package.result.now c.insert.new.self free
-    c.in_ok-insert.ensures.ok c.in_ok-insert.ensures.one_more (omega (arith, few, one))).still
+    record {
+      kept = (new-come c.self.inside.space c.self.inside.slots c.self.inside.names c.self.invariant.kept c.package.result.now c.insert.new.self free
+          c.in_ok-insert.ensures.ok c.in_ok-insert.ensures.one_more (omega (arith, few, one))).still;
+      left = c.self.invariant.left;
+    }
 
 pub returns-clause-made : goal.returns-clause-made
 returns-clause-made c =
@@ -40,7 +43,7 @@ returns-clause-made c =
     let free = brought-one c.self.inside.space.repository held c.args.block.now c.package.result.now block c.package.ensures in
     let one = ap (λ (l : List Package). length l) block.one in
     let few = subst (λ (v : ArchiveView). length v.packages + length c.args.block.now.packages < 4294967295) (sym c.self.view_is) c.requires in
-    let changed = new-come c.self.inside.space c.self.inside.slots c.self.inside.names c.self.invariant c.package.result.now c.insert.new.self free
+    let changed = new-come c.self.inside.space c.self.inside.slots c.self.inside.names c.self.invariant.kept c.package.result.now c.insert.new.self free
     c.in_ok-insert.ensures.ok c.in_ok-insert.ensures.one_more (omega (arith, few, one)) in
     subst (λ (v : ArchiveView). (x : Package) × (c.args.block.now.packages ≡ x ∷ []) × BringsName v.space.repository x v.packages
     (standing c.self.inside.space.repository.packages c.self.inside.slots ++ c.insert.new.self)) c.self.view_is
@@ -53,7 +56,7 @@ returns-clause-future c =
     let free = brought-one c.self.inside.space.repository held c.args.block.now c.package.result.now block c.package.ensures in
     let one = ap (λ (l : List Package). length l) block.one in
     let few = subst (λ (v : ArchiveView). length v.packages + length c.args.block.now.packages < 4294967295) (sym c.self.view_is) c.requires in
-    (new-come c.self.inside.space c.self.inside.slots c.self.inside.names c.self.invariant c.package.result.now c.insert.new.self free
+    (new-come c.self.inside.space c.self.inside.slots c.self.inside.names c.self.invariant.kept c.package.result.now c.insert.new.self free
     c.in_ok-insert.ensures.ok c.in_ok-insert.ensures.one_more (omega (arith, few, one))).still.future
 
 pub returns-clause-accepted : goal.returns-clause-accepted

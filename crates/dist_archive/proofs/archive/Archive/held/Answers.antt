@@ -21,5 +21,5 @@ returns-in-None c =
     let s = c.self.inside.space in
     let free = subst (λ (r : PackageList). ¬ IsHeld r.packages c.args.name.now) c.repo.ensures.value c.in-None.ensures in
     subst (λ (v : ArchiveView). (p : Package) → (option_copied c.get.result ≡ Some p) ↔ IsHeldAs v.packages c.args.name.now p) c.self.view_is
-    (new-answer s.repository c.self.invariant.space.frame.flat c.self.inside.slots c.self.inside.names c.self.invariant.named
-    c.self.invariant.untaken c.args.name.now (option_copied c.get.result) free c.get.ensures)
+    (new-answer s.repository c.self.invariant.kept.space.frame.flat c.self.inside.slots c.self.inside.names c.self.invariant.kept.named
+    c.self.invariant.kept.untaken c.args.name.now (option_copied c.get.result) free c.get.ensures)

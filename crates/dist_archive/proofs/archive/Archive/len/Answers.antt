@@ -5,11 +5,11 @@ use Rattle.dist_archive.proofs.archive.Archive.len.Goals as goal
 
 pub overflow_add-result : goal.overflow_add-result
 overflow_add-result c =
-    let all = held-length c.self.inside.space c.self.inside.slots c.self.inside.names c.self.invariant in
-    omega (arith, all, c.self.invariant.few, c.filled.ensures, c.len.ensures.value)
+    let all = held-length c.self.inside.space c.self.inside.slots c.self.inside.names c.self.invariant.kept in
+    omega (arith, all, c.self.invariant.kept.few, c.filled.ensures, c.len.ensures.value)
 
 pub returns-clause-value : goal.returns-clause-value
 returns-clause-value c =
-    let all = held-length c.self.inside.space c.self.inside.slots c.self.inside.names c.self.invariant in
+    let all = held-length c.self.inside.space c.self.inside.slots c.self.inside.names c.self.invariant.kept in
     let seen = ap (λ (v : ArchiveView). length v.packages) c.self.view_is in
     omega (arith, all, seen, c.filled.ensures, c.len.ensures.value)

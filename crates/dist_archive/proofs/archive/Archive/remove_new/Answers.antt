@@ -10,8 +10,12 @@ pub invariant_of-self : goal.invariant_of-self
 invariant_of-self c =
     let free = subst (λ (v : ArchiveView). ¬ IsTaken v.space.repository c.args.name.now) (sym c.self.view_is) c.requires in
     let held = subst (λ (v : ArchiveView). IsHeld v.packages c.args.name.now) (sym c.self.view_is) (c.holds.ensures.0 c.if-not-holds.false) in
-    (new-removed c.self.inside.space c.self.inside.slots c.self.inside.names c.self.invariant c.args.name.now c.remove.new.self free
-    ((held-new c.self.inside.space c.self.inside.slots c.self.inside.names c.self.invariant c.args.name.now free).0 held) c.remove.ensures.made).still
+    record {
+      kept = (new-removed c.self.inside.space c.self.inside.slots c.self.inside.names c.self.invariant.kept c.args.name.now c.remove.new.self free
+          ((held-new c.self.inside.space c.self.inside.slots c.self.inside.names c.self.invariant.kept c.args.name.now free).0 held)
+          c.remove.ensures.made).still;
+      left = c.self.invariant.left;
+    }
 
 pub returns-clause-made : goal.returns-clause-made
 returns-clause-made c =
@@ -19,5 +23,5 @@ returns-clause-made c =
     let held = subst (λ (v : ArchiveView). IsHeld v.packages c.args.name.now) (sym c.self.view_is) (c.holds.ensures.0 c.if-not-holds.false) in
     subst (λ (v : ArchiveView). Removes c.args.name.now v.packages
     (standing c.self.inside.space.repository.packages c.self.inside.slots ++ c.remove.new.self)) c.self.view_is
-    (new-removed c.self.inside.space c.self.inside.slots c.self.inside.names c.self.invariant c.args.name.now c.remove.new.self free
-    ((held-new c.self.inside.space c.self.inside.slots c.self.inside.names c.self.invariant c.args.name.now free).0 held) c.remove.ensures.made).made
+    (new-removed c.self.inside.space c.self.inside.slots c.self.inside.names c.self.invariant.kept c.args.name.now c.remove.new.self free
+    ((held-new c.self.inside.space c.self.inside.slots c.self.inside.names c.self.invariant.kept c.args.name.now free).0 held) c.remove.ensures.made).made
