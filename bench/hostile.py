@@ -228,9 +228,9 @@ ROWS = {
     "a package in so many conflicts, installed again and again": (20_000, lambda n: checked(*installed_again(n))),
     "one new line that reaches a chain of so many": (100_000, lambda n: checked(*chained(n))),
     "so many questions, each with a new line": (80_000, lambda n: checked(*new_again(n))),
-    "so many uploads to one source of as many packages": (20_000, lambda n: followed(
+    "so many uploads to one source of as many packages": (80_000, lambda n: followed(
         "".join(stanza(f"p{k:06}", more="Source: s\n") for k in range(n // 2)), [("p000000", "Source: s\n")] * (n // 2))),
-    "so many uploads to one package of as many entries, each with the last of them": (20_000, lambda n: followed(
+    "so many uploads to one package of as many entries, each with the last of them": (80_000, lambda n: followed(
         stanza("p", more="Provides: " + ", ".join(f"e{k}" for k in range(n // 2)) + "\n"), [("p", f"Provides: e{n // 2 - 1}\n")] * (n // 2))),
     "the classes of one entry told again and again": (8_000, lambda n: classes(
         stanza("libx", more="Provides: " + ", ".join(["a (= 1)"] * n) + "\n") + stanza("p", more="Conflicts: " + ", ".join(f"a (>= {k})" for k in range(n)) + "\n"))),
