@@ -127,6 +127,34 @@ def installed_again(n):
     return packages, header("plain", f"{n + 1} {n + 1} {n}") + "m 1\n" * (2 * n)
 
 
+def equal_items(n):
+    """A package with one item n times, installed n times."""
+    packages = stanza("p", more="Depends: " + ", ".join(["x"] * n) + "\n") + stanza("x")
+    return packages, header("plain", f"2 2 {n}") + "m 1 2\n" * n
+
+
+def one_wide_item(n):
+    """A package with an item of n alternatives, and n more that it doesn't need."""
+    return stanza("a", more="Depends: " + " | ".join(f"b{k:06}" for k in range(n)) + "\n") + "".join(stanza(f"b{k:06}") for k in range(n))
+
+
+def last_alternative(n):
+    """The last of n alternatives installed n times."""
+    return one_wide_item(n), header("plain", f"{n + 1} {n + 1} 1") + f"m 1 {n + 1}\n" * n
+
+
+def explained_by_the_last(n):
+    """The same in the file of an explanation."""
+    return ["check-explain", "packages", "list"], one_wide_item(n), f"distfuture-explain 1 10000 {n + 1} 1 1\n" + f"m 1 {n + 1}\n" * n
+
+
+def common_alternatives(n):
+    """A package with n items that differ in their first alternatives, installed n times with one or the other of those that all have."""
+    asks = ", ".join(f"c{k:06} | x | y" for k in range(n))
+    packages = stanza("a", more=f"Depends: {asks}\n") + "".join(stanza(f"c{k:06}") for k in range(n)) + stanza("x") + stanza("y")
+    return packages, header("plain", f"{n + 3} {n + 3} {n}") + f"m 1 {n + 2}\nm 1 {n + 3}\n" * (n // 2)
+
+
 def chained(n):
     """A package that reaches a chain of n others, each of which comes before the one that depends on it, and one new line on it."""
     packages = stanza("p", more="Depends: x | y\n") + stanza("x", more="Depends: z\n") + stanza("y", more="Depends: z\n")
@@ -226,6 +254,10 @@ ROWS = {
     "one false hint told again and again": (100_000, lambda n: checked(*hints(n))),
     "one line of so many numbers": (6_000_000, lambda n: checked(*wide_line(n))),
     "a package in so many conflicts, installed again and again": (20_000, lambda n: checked(*installed_again(n))),
+    "one item told again and again, installed as often": (20_000, lambda n: checked(*equal_items(n))),
+    "the last of so many alternatives, installed as often": (20_000, lambda n: checked(*last_alternative(n))),
+    "an explanation by the last of so many alternatives, installed as often": (20_000, explained_by_the_last),
+    "so many items with two alternatives in common, installed by either as often": (20_000, lambda n: checked(*common_alternatives(n))),
     "one new line that reaches a chain of so many": (100_000, lambda n: checked(*chained(n))),
     "so many questions, each with a new line": (80_000, lambda n: checked(*new_again(n))),
     "so many uploads to one source of as many packages": (80_000, lambda n: followed(

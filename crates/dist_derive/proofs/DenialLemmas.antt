@@ -1,5 +1,5 @@
 -- The clauses that a set of variables can make false.
-use Rattle.std.proofs.Common.{◌≡◌, inl, inr, ℕ, ◌+◌, ◌-◌, ◌<◌, ◌≤◌, Bool, false, List, [], ◌∷◌, ◌++◌, length, get_or, sym, ap, subst, ◌∙◌, arith}
+use Rattle.std.proofs.Common.{◌≡◌, inl, inr, ℕ, ◌+◌, ◌-◌, ◌<◌, ◌≤◌, Bool, false, List, [], ◌∷◌, ◌++◌, length, get_or, ap, subst, ◌∙◌, arith}
 use Rattle.std.specs.List.{Contains}
 use Rattle.std.specs.List.Sorted.{IsNonDecreasingBy, IsPermutation}
 use Rattle.std.proofs.lemmas.Bool.{cases_lt, cases_Bool}
@@ -9,7 +9,7 @@ use Rattle.std.proofs.lemmas.List.Sorted.{Contains-permutation, IsPermutation-sy
 use Rattle.dist_clause.specs.ClauseList.{clause_at}
 use Rattle.dist_clause.specs.Formula.{Literal, literal, MakesTrue, IsModel}
 use Rattle.dist_derive.specs.VariableSet.{GivesTrue}
-use Rattle.dist_derive.specs.DenialsPrivate.{IsDenied, AreDenialsOf}
+use Rattle.dist_derive.specs.DenialsPrivate.{IsDenied, AreDenialsOf, AreTrueWithin}
 
 -- ---- a negative literal of a clause
 
@@ -95,16 +95,15 @@ none-before value clauses pairs variable start low number k before within is =
     let same : (get_or pairs k (variable, number)).0 ≡ variable = ap (λ (x : ℕ × ℕ). x.0) is in
     absurd (omega (arith, less, same))
 
-pub true-more : (value : ℕ → Bool) (clauses : List (List Literal)) (pairs : List (ℕ × ℕ)) (variable place : ℕ) (x : ℕ × ℕ) → place < length pairs
-    → get_or pairs place x ≡ x → MakesTrue value (clause_at clauses x.1)
-    → AreTrueUpTo value clauses pairs variable place → AreTrueUpTo value clauses pairs variable (place + 1)
-true-more value clauses pairs variable place x there here holds so_far number k before within is = elim (cases_lt k place) [
+-- from a place on up to another too
+pub true-within : (value : ℕ → Bool) (clauses : List (List Literal)) (pairs : List (ℕ × ℕ)) (variable place next : ℕ)
+    → AreTrueWithin value clauses pairs place next
+    → AreTrueUpTo value clauses pairs variable place → AreTrueUpTo value clauses pairs variable next
+true-within value clauses pairs variable place next more so_far number k before within is = elim (cases_lt k place) [
   | inl less ↦ so_far number k less within is
   | inr past ↦
-      let same : k ≡ place = omega (arith, before, past) in
-      let pair : x ≡ (variable, number) = sym here ∙ get_or_default pairs place x (variable, number) there
-      ∙ ap (λ (n : ℕ). get_or pairs n (variable, number)) (sym same) ∙ is in
-      subst (λ n. MakesTrue value (clause_at clauses n)) (ap (λ (y : ℕ × ℕ). y.1) pair) holds
+      let pair : get_or pairs k (0, 0) ≡ (variable, number) = get_or_default pairs k (0, 0) (variable, number) within ∙ is in
+      subst (λ n. MakesTrue value (clause_at clauses n)) (ap (λ (y : ℕ × ℕ). y.1) pair) (more k past before within)
 ]
 
 -- behind a pair of a later variable there are none

@@ -23,6 +23,7 @@ pub mod SettledLaws
 pub mod HintLaws
 pub mod CountLaws
 pub mod DenialLemmas
+pub mod RowLemmas
 pub mod ResultLemmas
 pub mod WatchLemmas
 pub mod GuardLemmas

@@ -1,7 +1,7 @@
 -- Where a clause can be false: only where the variables of all its negative literals are true.
-use Rattle.std.specs.Prelude.{◌≡◌, ◌⊎◌, ℕ, ◌<◌, ◌≤◌, List, Contains, false, length, slice_index_or}
+use Rattle.std.specs.Prelude.{◌≡◌, ◌⊎◌, ℕ, ◌<◌, ◌≤◌, Bool, List, Contains, false, length, slice_index_or}
 use Rattle.dist_clause.specs.ClauseList.{clause_at}
-use Rattle.dist_clause.specs.Formula.{Literal, literal}
+use Rattle.dist_clause.specs.Formula.{Literal, literal, MakesTrue}
 use Rattle.dist_derive.specs.Follows.{IsNumberOf}
 
 -- the variable is that of a negative literal of the clause, or 0
@@ -19,3 +19,8 @@ pub record AreDenialsOf (clauses : List (List Literal)) (pairs : List (ℕ × �
 pub record StartsAt (pairs : List (ℕ × ℕ)) (variable place : ℕ) : Type 0 where
   pub before : (k : ℕ) (d : ℕ × ℕ) → k < place → (slice_index_or pairs k d).0 < variable
   pub behind : (k : ℕ) (d : ℕ × ℕ) → place ≤ k → k < length pairs → variable ≤ (slice_index_or pairs k d).0
+
+-- the clauses of the pairs from a place on, and before another, are true
+abbrev pub AreTrueWithin : (ℕ → Bool) → List (List Literal) → List (ℕ × ℕ) → ℕ → ℕ → Type 0
+AreTrueWithin value clauses pairs place next = (k : ℕ) → place ≤ k → k < next → k < length pairs
+    → MakesTrue value (clause_at clauses (slice_index_or pairs k (0, 0)).1)

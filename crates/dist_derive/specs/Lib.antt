@@ -16,4 +16,5 @@ pub mod LogPrivate
 pub mod ConePrivate
 pub mod Scratch
 pub mod DenialsPrivate
+pub mod RowsPrivate
 pub mod Examples

@@ -1,19 +1,24 @@
 //! Where clauses can be false: only where all variables that they negate are true. So a clause is looked at with one of the
 //! variables that it negates, and it is the rarest of them, so that a variable that very many clauses negate costs little.
+//! Clauses of one variable that share a true literal are passed at once (`rows.rt`).
 
-ghost use Rattle.std.specs.Prelude.{◌≡◌, ◌↔◌, ◌<◌, ◌≤◌, ℕ, Bool, Contains, IfOk, IsTrue, length, slice_index_or};
+ghost use Rattle.std.specs.Prelude.{◌≡◌, ◌↔◌, ◌<◌, ◌≤◌, ℕ, Bool, Contains, IfNone, IfOk, IfSome, IsTrue, List, OnOk, length, slice_index_or};
+ghost use Rattle.std.specs.List.Sorted.{IsNonDecreasingBy};
 ghost use Rattle.dist_clause.specs.ClauseList.{clause_at};
-ghost use Rattle.dist_clause.specs.Formula.{IsModel, MakesTrue};
-ghost use Rattle.dist_derive.specs.DenialsPrivate.{AreDenialsOf, IsDenied, StartsAt};
+ghost use Rattle.dist_clause.specs.Formula.{IsModel, Literal, MakesTrue};
+ghost use Rattle.dist_derive.specs.DenialsPrivate.{AreDenialsOf, AreTrueWithin, IsDenied, StartsAt};
+ghost use Rattle.dist_derive.specs.RowsPrivate.{AreAlike};
 ghost use Rattle.dist_derive.specs.VariableSet.{GivesTrue};
 
+use crate::rows::{Rows, compare_denials};
 use crate::variable_set::VariableSet;
+use dist_base::Flat;
 use dist_clause::{ClauseSet, Lit};
 use std::alloc::{AllocError, Global};
 use std::marker::Model;
 
 /// For each clause the variable of its rarest negative literal, or 0 where it has none, and its number, in the order of the
-/// variables.
+/// variables, and for one variable in the order of the rows.
 #[derive(Drop)]
 pub(crate) struct Denials {
     pairs: Vec<(u32, u32)>,
@@ -115,6 +120,21 @@ fn starts_of(
     Ok(starts)
 }
 
+/// Puts pairs into the order of their variables. Those of one variable come in the order of their rows.
+fn put_in_order(
+    rows: &Flat<Lit>,
+    counts: &[u32],
+    pairs: &mut Vec<(u32, u32)>,
+) -> Result<(), AllocError>
+    ensures rising { OnOk result (IsNonDecreasingBy (λ (pair : ℕ × ℕ). pair.0) pairs.new.items) }
+    ensures same { (clauses : List (List Literal)) → AreDenialsOf clauses pairs.old.items
+        → AreDenialsOf clauses pairs.new.items }
+{
+    pairs.sort_unstable_by(|pair, other| compare_denials(rows, counts, *pair, *other));
+    // They are in this order already, which a stable sort finds by one walk.
+    pairs.sort_by_key(|pair| pair.0)
+}
+
 impl Denials {
     /// Those of no clauses. It takes no memory.
     pub(crate) fn empty(alloc: Global) -> Denials {
@@ -124,28 +144,41 @@ impl Denials {
         }
     }
 
-    /// The denials of some clauses.
-    pub(crate) fn new(alloc: Global, clauses: &ClauseSet) -> Result<Denials, AllocError>
+    /// The denials of some clauses, with their rows.
+    pub(crate) fn new(
+        alloc: Global,
+        clauses: &ClauseSet,
+        rows: &Flat<Lit>,
+        counts: &[u32],
+    ) -> Result<Denials, AllocError>
         ensures { IfOk result (AreDenialsOf clauses.now.clauses) }
     {
         let mut pairs = pairs_of(alloc, clauses)?;
-        pairs.sort_unstable_by_key(|pair| pair.0);
+        put_in_order(rows, counts, &mut pairs)?;
         let starts = starts_of(alloc, clauses.variables(), &pairs)?;
         Ok(Denials { pairs, starts })
     }
 
+    /// The pairs.
+    pub(crate) fn pairs(&self) -> &[(u32, u32)]
+        ensures { result.now ≡ self.now }
+    {
+        &self.pairs
+    }
+
     /// Whether the clauses are true where exactly the members of a set are.
-    pub(crate) fn hold(&self, clauses: &ClauseSet, trues: &VariableSet) -> bool
+    pub(crate) fn hold(&self, clauses: &ClauseSet, rows: &Rows, trues: &VariableSet) -> bool
         requires denials { AreDenialsOf clauses.now.clauses self.now }
+        requires alike { AreAlike clauses.now.clauses self.now rows.now }
         requires variables { trues.now.variables ≡ clauses.now.variables }
         ensures { (value : ℕ → Bool) → GivesTrue value trues.now.members
             → IsTrue result ↔ IsModel value clauses.now.clauses }
     {
-        if !self.are_true(clauses, 0, trues) {
+        if !self.are_true(clauses, rows, 0, trues) {
             return false;
         }
         for variable in trues.members() {
-            if !self.are_true(clauses, *variable, trues) {
+            if !self.are_true(clauses, rows, *variable, trues) {
                 return false;
             }
         }
@@ -153,24 +186,55 @@ impl Denials {
     }
 
     /// Whether those clauses are true that are looked at with this variable, or at 0 those that have no negative literal.
-    fn are_true(&self, clauses: &ClauseSet, variable: u32, trues: &VariableSet) -> bool
+    fn are_true(&self, clauses: &ClauseSet, rows: &Rows, variable: u32, trues: &VariableSet) -> bool
         requires denials { AreDenialsOf clauses.now.clauses self.now }
+        requires alike { AreAlike clauses.now.clauses self.now rows.now }
         requires variables { trues.now.variables ≡ clauses.now.variables }
         ensures { (value : ℕ → Bool) → GivesTrue value trues.now.members
             → IsTrue result ↔ ((number : ℕ) → Contains self.now (variable, number)
             → MakesTrue value (clause_at clauses.now.clauses number)) }
     {
-        let start = self.start_of(variable);
-        for place in start..self.pairs.len() {
-            let (denied, number) = self.pairs[place];
-            if denied != variable {
+        let mut place = self.start_of(variable);
+        while place < self.pairs.len() {
+            if self.pairs[place].0 != variable {
                 return true;
             }
-            if !trues.makes_clause_true(clauses.clause(number)) {
+            let Some(next) = self.pass(clauses, rows, place, trues) else {
                 return false;
-            }
+            };
+            place = next;
         }
         true
+    }
+
+    /// A place so that the clauses of all pairs from one on, and before it, are true; none where the first of them is false.
+    fn pass(
+        &self,
+        clauses: &ClauseSet,
+        rows: &Rows,
+        place: usize,
+        trues: &VariableSet,
+    ) -> Option<usize>
+        requires place { place < length self.now }
+        requires denials { AreDenialsOf clauses.now.clauses self.now }
+        requires alike { AreAlike clauses.now.clauses self.now rows.now }
+        requires variables { trues.now.variables ≡ clauses.now.variables }
+        ensures later { IfSome result (λ next. place < next) }
+        ensures some { (value : ℕ → Bool) → GivesTrue value trues.now.members
+            → IfSome result (AreTrueWithin value clauses.now.clauses self.now place) }
+        ensures none { (value : ℕ → Bool) → GivesTrue value trues.now.members
+            → IfNone result (¬ MakesTrue value (clause_at clauses.now.clauses (slice_index_or self.now place (0, 0)).1)) }
+    {
+        let (_, number) = self.pairs[place];
+        let clause = clauses.clause(number);
+        if let Some(found) = rows.true_place(number, place, trues) {
+            return Some(rows.behind(place, found));
+        }
+        if trues.makes_clause_true(clause) {
+            Some(place + 1)
+        } else {
+            None
+        }
     }
 
     /// The place of the first pair with this variable, or with a higher one. A guess that fits spares the search.

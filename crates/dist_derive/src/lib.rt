@@ -20,6 +20,7 @@ mod new_lines;
 mod newness;
 mod occurrences;
 mod propagation;
+mod rows;
 mod scratch;
 mod standing;
 mod true_literals;
