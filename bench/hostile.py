@@ -180,6 +180,26 @@ def new_again(n):
     return packages, f"distfuture-certificate 1 strong plain 1 {number} {number} {broken + 3 * groups}\n" + lines
 
 
+def reaching_a_chain(n, essential=False):
+    """A chain of n packages, or n essential ones, beside n / 4 questions that each have a new line on what is near: each leads to one package in two
+    ways, and on to the chain."""
+    packages, lines, clauses, groups = "", "", 0, n // 4
+    for k in range(groups):
+        name, first = f"g{k:06}", 4 * k + 1
+        packages += stanza(f"{name}-p", more=f"Depends: {name}-x | {name}-y\n") + stanza(f"{name}-z", more="" if essential else f"Depends: l{n - 1:06}\n")
+        packages += "".join(stanza(f"{name}-{letter}", more=f"Depends: {name}-z\n") for letter in "xy")
+        lines += f"q {first}\nd {first + 3} -{first} 0 {clauses + 2} {clauses + 3} {clauses + 1}\nu\n"
+        clauses += 3 if essential else 4
+    if essential:
+        packages += "".join(stanza(f"l{k:06}", more="Essential: yes\n") for k in range(n))
+        clauses += n
+    else:
+        packages += "".join(stanza(f"l{k:06}", more=f"Depends: l{k - 1:06}\n" if k else "") for k in range(n))
+        clauses += n - 1
+    mode, number = "essential" if essential else "plain", 4 * groups + n
+    return packages, f"distfuture-certificate 1 strong {mode} 1 {number} {number} {clauses}\n" + lines
+
+
 def many_entries(n):
     """A library with n / 4 entries and n / 20 bounds on another name, and n / 2 atoms on the library."""
     entries = ", ".join(f"e{k}" for k in range(n // 4))
@@ -264,6 +284,8 @@ ROWS = {
         "".join(stanza(f"p{k:06}", more="Source: s\n") for k in range(n // 2)), [("p000000", "Source: s\n")] * (n // 2))),
     "so many uploads to one package of as many entries, each with the last of them": (80_000, lambda n: followed(
         stanza("p", more="Provides: " + ", ".join(f"e{k}" for k in range(n // 2)) + "\n"), [("p", f"Provides: e{n // 2 - 1}\n")] * (n // 2))),
+    "so many questions that reach one chain, each with a new line": (20_000, lambda n: checked(*reaching_a_chain(n))),
+    "so many questions beside as many essential packages, each with a new line": (20_000, lambda n: checked(*reaching_a_chain(n, True))),
     "the classes of one entry told again and again": (8_000, lambda n: classes(
         stanza("libx", more="Provides: " + ", ".join(["a (= 1)"] * n) + "\n") + stanza("p", more="Conflicts: " + ", ".join(f"a (>= {k})" for k in range(n)) + "\n"))),
     "the clauses of futures of so many entries": (8_000, lambda n: futures(many_entries(n))),

@@ -1,10 +1,10 @@
 -- How the cone of assumptions grows under the clauses, and which clauses are still to be looked at.
-use Rattle.std.specs.Prelude.{◌≡◌, ◌⊎◌, ℕ, Bool, false, ◌≤◌, List, length, take, All, Contains}
+use Rattle.std.specs.Prelude.{◌≡◌, ◌⊎◌, ℕ, Bool, false, ◌<◌, ◌≤◌, List, length, take, All, Contains}
 use Rattle.dist_clause.specs.Formula.{Literal}
 use Rattle.dist_clause.specs.ClauseList.{clause_at}
 use Rattle.dist_derive.specs.ContainmentPrivate.{ContainsAll}
 use Rattle.dist_derive.specs.VariableSet.{VariableList}
-use Rattle.dist_derive.specs.Cone.{IsClosedUnder}
+use Rattle.dist_derive.specs.Cone.{IsClosedUnder, IsWithinCone}
 use Rattle.dist_derive.specs.Marking.{HasAll}
 use Rattle.dist_derive.specs.OccurrencesPrivate.{OccurrenceLists}
 
@@ -33,3 +33,8 @@ pub record Reaches (clauses : List (List Literal)) (old new : VariableList) : Ty
   pub longer : length old.members ≤ length new.members
   pub front : (done : ℕ) → done ≤ length old.members → take done new.members ≡ take done old.members
   pub least : (has : ℕ → Bool) → HasAll has old.members → IsClosedUnder has clauses → HasAll has new.members
+
+-- all variables of the clauses with numbers above the last one are in the cone
+abbrev pub AreLinesWithin : List (List Literal) → List (List Literal) → List Literal → ℕ → Type 0
+AreLinesWithin inputs clauses assumptions last = (number : ℕ) → last < number → number ≤ length clauses
+    → IsWithinCone inputs assumptions (clause_at clauses number)

@@ -1,4 +1,4 @@
--- Clauses with their literals in another order, and how many first literals such a row has in common with the one before it.
+-- Clauses with their literals in another order, and how many first literals such a row shares with the one before.
 use Rattle.std.specs.Prelude.{◌≡◌, ℕ, ◌+◌, ◌<◌, ◌≤◌, List, Contains, length, slice_index, slice_index_or}
 use Rattle.dist_clause.specs.ClauseList.{clause_at}
 use Rattle.dist_clause.specs.Formula.{Literal}

@@ -2,7 +2,8 @@
 //!
 //! The members are a queue: each is taken once, with the clauses in which it stands negated. A clause asks for nothing until
 //! all its negated variables are in, so what the cone doesn't touch isn't looked at. Clauses that are not in the index are
-//! walked.
+//! walked. Lines are mostly on variables that the assumptions reach soon, so these are looked for before the whole cone is
+//! marked.
 
 ghost use Rattle.std.specs.Prelude.{◌≡◌, ◌<◌, ◌≤◌, ◌↔◌, ℕ, false, [], length, take, All, Contains, IsTrue};
 ghost use Rattle.dist_clause.specs.Formula.{IsClauseOver};
@@ -11,12 +12,15 @@ ghost use Rattle.dist_clause.specs.ClauseList.{clause_at};
 ghost use Rattle.dist_derive.specs.Cone.{InCone};
 ghost use Rattle.dist_derive.specs.Marking.{Grows, IsClosedAt};
 ghost use Rattle.dist_derive.specs.OccurrencesPrivate.{Lists, IsIndexOf};
-ghost use Rattle.dist_derive.specs.ConePrivate.{WaitsIn, AllWaitIn, Reaches};
+ghost use Rattle.dist_derive.specs.ConePrivate.{AreLinesWithin, WaitsIn, AllWaitIn, Reaches};
 
 use crate::Log;
 use crate::occurrences::{Occurrences, POSITIVE};
 use crate::variable_set::VariableSet;
 use dist_clause::Lit;
+
+/// So many members of a cone are taken before the lines are looked at.
+const FIRST_MEMBERS: usize = 8;
 
 impl Log {
     /// Makes a set the cone of assumptions over the input clauses. The set's own calls give its variables, each once.
@@ -49,6 +53,89 @@ impl Log {
     {
         self.mark(cone, assumptions, inputs);
         cone.has_clause(clause)
+    }
+
+    /// Whether the cone of the assumptions has all variables of the clauses with numbers above `last`. It marks as much of the
+    /// cone as they need.
+    pub(crate) fn reaches_lines(
+        &self,
+        cone: &mut VariableSet,
+        assumptions: &[Lit],
+        last: u32,
+    ) -> bool
+        requires empty { cone.old ≡ record { variables = self.now.variables; members = [] } }
+        requires assumptions { All (λ l. l.variable ≤ self.now.variables) assumptions.now }
+        requires last { last ≤ length self.now.clauses }
+        ensures answer { IsTrue result ↔ AreLinesWithin (inputs_of self.now) self.now.clauses assumptions.now last }
+        ensures same_variables { cone.new.variables ≡ cone.old.variables }
+    {
+        let inputs = self.inputs();
+        if self.finds_lines(cone, assumptions, last, inputs) {
+            return true;
+        }
+        cone.clear();
+        self.mark(cone, assumptions, inputs);
+        self.has_lines(cone, last)
+    }
+
+    /// Marks what the assumptions reach, until all variables of the clauses with numbers above `last` are in; answers whether
+    /// they are. Clauses without a negative literal and those that are not in the index are left out.
+    fn finds_lines(
+        &self,
+        cone: &mut VariableSet,
+        assumptions: &[Lit],
+        last: u32,
+        inputs: u32,
+    ) -> bool
+        requires empty { cone.old ≡ record { variables = self.now.variables; members = [] } }
+        requires assumptions { All (λ l. l.variable ≤ self.now.variables) assumptions.now }
+        requires last { last ≤ length self.now.clauses }
+        requires inputs { inputs ≤ length self.now.clauses }
+        ensures found { IsTrue result → AreLinesWithin (take inputs self.now.clauses) self.now.clauses assumptions.now last }
+        ensures same_variables { cone.new.variables ≡ cone.old.variables }
+    {
+        cone.include_all(assumptions);
+        let mut done = 0usize;
+        while done < cone.len() {
+            // The lines are looked at as often as the members have doubled.
+            let most = done.saturating_mul(2).saturating_add(FIRST_MEMBERS);
+            self.take_some(cone, done, most, inputs);
+            if self.has_lines(cone, last) {
+                return true;
+            }
+            done = most;
+        }
+        false
+    }
+
+    /// Takes the members from the place `first` on, and before another, with the clauses in which they stand negated.
+    fn take_some(&self, cone: &mut VariableSet, first: usize, most: usize, inputs: u32)
+        requires same_variables { cone.old.variables ≡ self.now.variables }
+        requires inputs { inputs ≤ length self.now.clauses }
+        ensures reaches { Reaches (take inputs self.now.clauses) cone.old cone.new }
+    {
+        let index = self.occurrences();
+        let mut done = first;
+        while done < cone.len().min(most) {
+            let latest = index.latest_negated(cone.get(done));
+            self.close_list(index, cone, latest, inputs);
+            done += 1;
+        }
+    }
+
+    /// Whether all variables of the clauses with numbers above `last` are in a set.
+    fn has_lines(&self, cone: &VariableSet, last: u32) -> bool
+        requires same_variables { cone.now.variables ≡ self.now.variables }
+        requires last { last ≤ length self.now.clauses }
+        ensures { IsTrue result ↔ ((number : ℕ) → last < number → number ≤ length self.now.clauses
+            → All (λ l. Contains cone.now.members l.variable) (clause_at self.now.clauses number)) }
+    {
+        for before in last..self.len() {
+            if !cone.has_clause(self.clause(before + 1)) {
+                return false;
+            }
+        }
+        true
     }
 
     /// Makes an empty set the cone of the assumptions, where the input clauses are the first `inputs` ones.

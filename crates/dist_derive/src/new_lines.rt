@@ -6,11 +6,10 @@ ghost use Rattle.std.specs.Prelude.{◌≡◌, ◌<◌, ◌≤◌, ◌↔◌, �
 ghost use Rattle.dist_clause.specs.Formula.{IsClauseOver};
 ghost use Rattle.dist_clause.specs.ClauseList.{clause_at};
 ghost use Rattle.dist_derive.specs.ClauseLog.{inputs_of};
-ghost use Rattle.dist_derive.specs.Cone.{InCone};
+ghost use Rattle.dist_derive.specs.ConePrivate.{AreLinesWithin};
 ghost use Rattle.dist_derive.specs.New.{LeavesFirstUnset, AreNewFrom};
 ghost use Rattle.dist_derive.specs.WatchesPrivate.{IsStandingIfMade};
 
-use crate::variable_set::VariableSet;
 use crate::watching::Watching;
 use crate::{Log, Scratch};
 use dist_clause::Lit;
@@ -29,10 +28,12 @@ impl Log {
         if last < self.inputs() {
             return self.each_is_new(scratch, assumptions, last);
         }
-        self.mark_cone(&mut scratch.cone, assumptions);
-        let told = self.lines_are_new(&scratch.cone, assumptions, last);
+        let reached = self.reaches_lines(&mut scratch.cone, assumptions, last);
         scratch.cone.clear();
-        match told {
+        if !reached {
+            return false;
+        }
+        match self.lines_are_new(assumptions, last) {
             Ok(answer) => answer,
             Err(_) => self.each_is_new(scratch, assumptions, last),
         }
@@ -55,24 +56,19 @@ impl Log {
         true
     }
 
-    /// The same where the last number is not among the input clauses, and the cone of the assumptions is given.
-    fn lines_are_new(
-        &mut self,
-        cone: &VariableSet,
-        assumptions: &[Lit],
-        last: u32,
-    ) -> Result<bool, AllocError>
+    /// The same where the last number is not among the input clauses, and the cone of the assumptions has all variables of
+    /// the lines.
+    fn lines_are_new(&mut self, assumptions: &[Lit], last: u32) -> Result<bool, AllocError>
         requires inputs { self.old.inputs ≤ last }
         requires last { last ≤ length self.old.clauses }
         requires assumptions { All (λ l. l.variable ≤ self.old.variables) assumptions.now }
-        requires cone_variables { cone.now.variables ≡ self.old.variables }
-        requires cone { (v : ℕ) → Contains cone.now.members v ↔ InCone (inputs_of self.old) assumptions.now v }
+        requires within { AreLinesWithin (inputs_of self.old) self.old.clauses assumptions.now last }
         ensures answer { IfOk result (λ answer. IsTrue answer
             ↔ AreNewFrom self.old.clauses self.old.inputs assumptions.now last) }
         ensures same { self.new ≡ self.old }
     {
         let mut watching = self.watching.take(self.alloc);
-        match self.tell_lines(&mut watching, cone, assumptions, last) {
+        match self.tell_lines(&mut watching, assumptions, last) {
             Ok(answer) => {
                 self.watching.put(watching);
                 Ok(answer)
@@ -88,50 +84,40 @@ impl Log {
     fn tell_lines(
         &self,
         watching: &mut Watching,
-        cone: &VariableSet,
         assumptions: &[Lit],
         last: u32,
     ) -> Result<bool, AllocError>
         requires standing { IsStandingIfMade self.now.clauses self.now.variables watching.old }
         requires inputs { self.now.inputs ≤ last }
         requires assumptions { All (λ l. l.variable ≤ self.now.variables) assumptions.now }
-        requires cone_variables { cone.now.variables ≡ self.now.variables }
-        requires cone { (v : ℕ) → Contains cone.now.members v ↔ InCone (inputs_of self.now) assumptions.now v }
+        requires within { AreLinesWithin (inputs_of self.now) self.now.clauses assumptions.now last }
         ensures answer { IfOk result (λ answer. IsTrue answer
             ↔ AreNewFrom self.now.clauses self.now.inputs assumptions.now last) }
         ensures standing { IfOk result (λ _. IsStandingIfMade self.now.clauses self.now.variables watching.new) }
     {
         for before in last..self.len() {
-            if !self.tell_line(watching, cone, assumptions, before)? {
+            if !self.tell_line(watching, assumptions, before)? {
                 return Ok(false);
             }
         }
         Ok(true)
     }
 
-    /// Whether all variables of the clause behind the first `before` ones are in a set, and its first literal is left unset
-    /// by these, as `tested` says.
+    /// Whether the first literal of the clause behind the first `before` ones is left unset by these, as `tested` says.
     fn tell_line(
         &self,
         watching: &mut Watching,
-        cone: &VariableSet,
         assumptions: &[Lit],
         before: u32,
     ) -> Result<bool, AllocError>
         requires standing { IsStandingIfMade self.now.clauses self.now.variables watching.old }
         requires before { before < length self.now.clauses }
         requires assumptions { All (λ l. l.variable ≤ self.now.variables) assumptions.now }
-        requires cone_variables { cone.now.variables ≡ self.now.variables }
         ensures answer { IfOk result (λ answer. IsTrue answer
-            ↔ (All (λ l. Contains cone.now.members l.variable) (clause_at self.now.clauses (before + 1))
-            × LeavesFirstUnset (take before self.now.clauses) assumptions.now (clause_at self.now.clauses (before + 1)))) }
+            ↔ LeavesFirstUnset (take before self.now.clauses) assumptions.now (clause_at self.now.clauses (before + 1))) }
         ensures standing { IfOk result (λ _. IsStandingIfMade self.now.clauses self.now.variables watching.new) }
     {
         let _clauses = self.len();
-        let clause = self.clause(before + 1);
-        if !cone.has_clause(clause) {
-            return Ok(false);
-        }
-        self.tell(watching, assumptions, clause, before)
+        self.tell(watching, assumptions, self.clause(before + 1), before)
     }
 }

@@ -1,5 +1,4 @@
-use Rattle.std.proofs.Common.{length-append, sym, arith}
-use Rattle.dist_clause.specs.Formula.{Literal}
+use Rattle.std.proofs.Common.{length-append, arith}
 use Rattle.dist_derive.specs.ClauseLog.{joined}
 use Rattle.dist_derive.specs.LogPrivate.{IsIndexed}
 use Rattle.dist_derive.proofs.log.cover_all.Goals as goal

@@ -46,7 +46,8 @@ returns-in_default c = λ value gives.
     (subst (λ (v : ℕ). Contains pairs (v, x.1)) c.if-index-variable.false (place, within, here)) in
     let first : get_or pairs place (0, 0) ≡ x = get_or_default pairs place (0, 0) x within ∙ here in
     let none = subst (λ (y : ℕ × ℕ). ¬ MakesTrue value (clause_at clauses y.1)) first
-    (subst (λ (ps : List (ℕ × ℕ)). ¬ MakesTrue value (clause_at clauses (get_or ps place (0, 0)).1)) (sym c.self.view_is) (c.in_default.ensures.none value gives)) in (
+    (subst (λ (ps : List (ℕ × ℕ)). ¬ MakesTrue value (clause_at clauses (get_or ps place (0, 0)).1)) (sym c.self.view_is)
+    (c.in_default.ensures.none value gives)) in (
       (λ no. absurd (false≢true no)),
       λ all. absurd (none (all x.1 there)),
     )
