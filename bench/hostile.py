@@ -155,6 +155,12 @@ def common_alternatives(n):
     return packages, header("plain", f"{n + 3} {n + 3} {n}") + f"m 1 {n + 2}\nm 1 {n + 3}\n" * (n // 2)
 
 
+def repaired_again(n):
+    """The file of a repair of one of n loose packages, with its installation n times."""
+    packages = "".join(stanza(f"b{k:06}") for k in range(n))
+    return ["check-repair", "packages", "list"], packages, f"distfuture-repair 1 10000 {n} {13 * n + 1} {22 * n - 17} 1 8\n" + "m 2\n" * n
+
+
 def chained(n):
     """A package that reaches a chain of n others, each of which comes before the one that depends on it, and one new line on it."""
     packages = stanza("p", more="Depends: x | y\n") + stanza("x", more="Depends: z\n") + stanza("y", more="Depends: z\n")
@@ -278,6 +284,7 @@ ROWS = {
     "the last of so many alternatives, installed as often": (20_000, lambda n: checked(*last_alternative(n))),
     "an explanation by the last of so many alternatives, installed as often": (20_000, explained_by_the_last),
     "so many items with two alternatives in common, installed by either as often": (20_000, lambda n: checked(*common_alternatives(n))),
+    "a repair of one of so many packages, installed as often": (20_000, repaired_again),
     "one new line that reaches a chain of so many": (100_000, lambda n: checked(*chained(n))),
     "so many questions, each with a new line": (80_000, lambda n: checked(*new_again(n))),
     "so many uploads to one source of as many packages": (80_000, lambda n: followed(

@@ -1,18 +1,32 @@
 -- The truth values of an installation, and how many clusters have moved in it.
-use Rattle.std.proofs.Common.{◌≡◌, inl, inr, ℕ, zero, suc, ◌+◌, ◌-◌, ◌<◌, ◌≤◌, ◌==◌, ◌||◌, Bool, true, false, cond, List, [], ◌∷◌, ◌++◌, length}
-use Rattle.std.proofs.Common.{length-append, get_or, refl, sym, ap}
+use Rattle.std.proofs.Common.{◌≡◌, ◌↔◌, ◌⊎◌, inl, inr, ℕ, ◌+◌, ◌-◌, ◌<◌, ◌≤◌, ◌==◌, ◌||◌, Bool, true, false, not, List, [], ◌∷◌, ◌++◌, length}
+use Rattle.std.proofs.Common.{eqb, get_or, nat_cmp, refl, subst, sym, take, ap}
 use Rattle.std.proofs.Common.{◌∙◌, arith}
-use Rattle.std.specs.Prelude.{filter, replicate}
-use Rattle.std.specs.List.{range_with_len}
+use Rattle.std.specs.Prelude.{Any, Contains, replicate}
+use Rattle.std.specs.List.{dedup, range_with_len}
+use Rattle.std.specs.List.Sorted.{IsPermutation, IsSorted, IsStrictlyIncreasing}
 use Rattle.std.proofs.Math.ListN.{length-set, set}
-use Rattle.std.proofs.lemmas.Bool.{cases_eq, cond-false, cond-true, eq-eqb, ne_eqb, or_right}
-use Rattle.std.proofs.lemmas.List.{ext_get_or, get_or-replicate, get_or-set_other, get_or-set_same, length-replicate}
-use Rattle.std.proofs.lemmas.List.Elements.{filter-append}
+use Rattle.std.proofs.lemmas.Bool.{cases_eq, cases_lt, eq-eqb, ne_eqb, or_right}
+use Rattle.std.proofs.lemmas.List.{ext_get_or, get_or-replicate, get_or-set_other, get_or-set_same, get_or_past, length-replicate, take_more}
+use Rattle.std.proofs.lemmas.List.Elements.{Contains-append_left, Contains-push, Contains-push_cases}
+use Rattle.std.proofs.lemmas.List.Filters.{length-filter_both}
+use Rattle.std.proofs.lemmas.List.FromFn.{length-range_with_len}
+use Rattle.std.proofs.lemmas.List.Kept.{Contains-dedup_nat, Contains-from_dedup}
+use Rattle.std.proofs.lemmas.List.Sorted.{Contains-permutation, IsPermutation-sym}
+use Rattle.std.proofs.lemmas.Map.Keys.{IsStrictlyIncreasing-dedup}
+use Rattle.dist_base.specs.RowLaws.{same-numbers}
 use Rattle.dist_clause.specs.Formula.{value_of}
+use Rattle.dist_classes.specs.declared.class_value.Class.{Class}
+use Rattle.dist_cert.specs.ListLaws.{any-from, from-any}
 use Rattle.dist_cert.specs.Rising.{is_among}
+use Rattle.dist_space.specs.Space.{IsSpace, SpaceView, cluster_classes, variable_of}
+use Rattle.dist_space.specs.declared.meaning.Meaning.TheVariants.{At}
 use Rattle.dist_subject.specs.MemberLaws.{value-among}
 use Rattle.dist_subject.specs.Present.{truth_of}
 use Rattle.dist_subject.specs.TruthLaws.{truth-length}
+use Rattle.dist_repair.specs.Answered.{clusters_under, is_at_class, moved_in}
+use Rattle.dist_repair.specs.NotesPrivate.{IsClassOf}
+use Rattle.dist_repair.proofs.RangeLemmas.{passing-exact, passing-rise, some-below}
 
 -- ---- truth values
 
@@ -74,36 +88,84 @@ truth-is n members values are =
     ∙ sym (value-among n members (k + 1) (omega arith) (omega (arith, short, size)))
     ∙ ap (λ (j : ℕ). get_or (truth_of n members) j false) back)
 
--- ---- counts
+-- ---- clusters
 
-range-more : (a n : ℕ) → range_with_len a (suc n) ≡ range_with_len a n ++ (a + n) ∷ []
-range-more a zero = let same : a ≡ a + 0 = omega arith in ap (λ (k : ℕ). k ∷ []) same
-range-more a (suc n) =
-    let same : a + 1 + n ≡ a + suc n = omega arith in
-    ap (λ (xs : List ℕ). a ∷ xs) (range-more (a + 1) n ∙ ap (λ (k : ℕ). range_with_len (a + 1) n ++ k ∷ []) same)
+-- a cluster with a class is one of all
+pub class-within : (s : SpaceView) (c k : ℕ) → IsSpace s → k < length (cluster_classes s c) → c < length s.clusters.members
+class-within s c k space less = elim (cases_lt c (length s.clusters.members)) [
+  | inl short ↦ short
+  | inr past ↦
+      let beside = space.frame.classes_beside in
+      let none : cluster_classes s c ≡ [] = get_or_past s.classes c [] (omega (arith, beside, past)) in
+      absurd (omega (arith, less, ap (λ (cs : List Class). length cs) none))
+]
 
--- how many numbers below n pass a test
-abbrev pub passing : (ℕ → Bool) → ℕ → ℕ
-passing test n = length (filter test (range_with_len 0 n))
-
-passing-more : (test : ℕ → Bool) (n : ℕ) → passing test (n + 1) ≡ passing test n + cond (test n) 1 0
-passing-more test n =
-    let next : n + 1 ≡ suc n = omega arith in
-    let zero_on : 0 + n ≡ n = omega arith in
-    let all : filter test (range_with_len 0 (n + 1)) ≡ filter test (range_with_len 0 n) ++ filter test (n ∷ []) =
-    ap (λ (k : ℕ). filter test (range_with_len 0 k)) next ∙ ap (λ (xs : List ℕ). filter test xs) (range-more 0 n
-    ∙ ap (λ (k : ℕ). range_with_len 0 n ++ k ∷ []) zero_on) ∙ filter-append test (range_with_len 0 n) (n ∷ []) in
-    ap (λ (xs : List ℕ). length xs) all ∙ length-append (filter test (range_with_len 0 n)) (filter test (n ∷ []))
-    ∙ ap (λ (k : ℕ). passing test n + k) (one (test n))
+-- with one element more
+pub any-taken : (P : ℕ → Type 0) (xs : List ℕ) (i : ℕ) → i < length xs → Any P (take (i + 1) xs) ↔ (Any P (take i xs) ⊎ P (get_or xs i 0))
+any-taken P xs i within = (
+  λ any. split (subst (λ (zs : List ℕ). Any P zs) more any),
+  λ either. subst (λ (zs : List ℕ). Any P zs) (sym more) (join either),
+)
   where
-    one : (b : Bool) → length (cond b (n ∷ []) []) ≡ cond b 1 0
-    one true = refl
-    one false = refl
+    more : take (i + 1) xs ≡ take i xs ++ get_or xs i 0 ∷ []
+    more = take_more xs i 0 within
 
-pub passing-on : (test : ℕ → Bool) (n : ℕ) → test n ≡ true → passing test (n + 1) ≡ passing test n + 1
-passing-on test n on = passing-more test n ∙ ap (λ (k : ℕ). passing test n + k) (cond-true (test n) 1 0 on)
+    split : Any P (take i xs ++ get_or xs i 0 ∷ []) → Any P (take i xs) ⊎ P (get_or xs i 0)
+    split (k, x, short, is, holds) = elim (Contains-push_cases (take i xs) (get_or xs i 0) x (k, short, is)) [
+      | inl earlier ↦ inl (earlier.0, x, earlier.1, earlier.2, holds)
+      | inr same ↦ inr (subst P (sym same) holds)
+    ]
 
-pub passing-off : (test : ℕ → Bool) (n : ℕ) → test n ≡ false → passing test (n + 1) ≡ passing test n
-passing-off test n off =
-    let same : passing test n + 0 ≡ passing test n = omega arith in
-    passing-more test n ∙ ap (λ (k : ℕ). passing test n + k) (cond-false (test n) 1 0 off) ∙ same
+    join : Any P (take i xs) ⊎ P (get_or xs i 0) → Any P (take i xs ++ get_or xs i 0 ∷ [])
+    join (inl (k, x, short, is, holds)) =
+        let there = Contains-append_left (take i xs) (get_or xs i 0 ∷ []) x (k, short, is) in
+        (there.0, x, there.1, there.2, holds)
+    join (inr holds) = let there = Contains-push (take i xs) (get_or xs i 0) in (there.0, get_or xs i 0, there.1, there.2, holds)
+
+module _ (s : SpaceView) (members : List ℕ) where
+  -- a cluster has moved where a class of it is among the members
+  pub moved-any : (c : ℕ) → c < length s.clusters.members → is_at_class s (is_among members) c ≡ true → Any (λ v. IsClassOf s v c) members
+  moved-any c within on =
+      let at = (some-below (λ k. is_among members (variable_of s (At c k))) (length (cluster_classes s c))).0 on in
+      let there = from-any (variable_of s (At c at.0)) members at.2 in
+      (there.0, variable_of s (At c at.0), there.1, there.2, (within, at.0, at.1, refl))
+
+  pub any-moved : (c : ℕ) → Any (λ v. IsClassOf s v c) members → (c < length s.clusters.members) × (is_at_class s (is_among members) c ≡ true)
+  any-moved c (place, v, short, there, (within, k, less, same)) = (
+    within,
+    (some-below (λ k. is_among members (variable_of s (At c k))) (length (cluster_classes s c))).1
+        (k, less, ap (is_among members) same ∙ any-from v members (place, short, there)),
+  )
+
+  -- rising numbers of the clusters with a class among the members are the clusters that have moved
+  pub clusters-are : (clusters sorted once : List ℕ) → ((c : ℕ) → Contains clusters c ↔ Any (λ v. IsClassOf s v c) members)
+      → IsPermutation clusters sorted → IsSorted nat_cmp sorted → once ≡ dedup eqb sorted → once ≡ clusters_under s (is_among members)
+  clusters-are clusters sorted once exact permuted rising is =
+      same-numbers (clusters_under s (is_among members)) once (passing-rise test all)
+      (subst (λ (xs : List ℕ). IsStrictlyIncreasing xs) (sym is) (IsStrictlyIncreasing-dedup sorted rising)) to back
+    where
+      test : ℕ → Bool
+      test = is_at_class s (is_among members)
+
+      all : ℕ
+      all = length s.clusters.members
+
+      to : (c : ℕ) → Contains (clusters_under s (is_among members)) c → Contains once c
+      to c there =
+          let both = (passing-exact test all c).0 there in
+          subst (λ (xs : List ℕ). Contains xs c) (sym is)
+          (Contains-dedup_nat sorted c (Contains-permutation clusters sorted c permuted ((exact c).1 (moved-any c both.0 both.1))))
+
+      back : (c : ℕ) → Contains once c → Contains (clusters_under s (is_among members)) c
+      back c there =
+          let in_sorted = Contains-from_dedup eqb sorted c (subst (λ (xs : List ℕ). Contains xs c) is there) in
+          let any = (exact c).0 (Contains-permutation sorted clusters c (IsPermutation-sym clusters sorted permuted) in_sorted) in
+          (passing-exact test all c).1 (any-moved c any)
+
+  pub moved-few : moved_in s members ≤ length s.clusters.members
+  moved-few =
+      let numbers : List ℕ = range_with_len 0 (length s.clusters.members) in
+      let test : ℕ → Bool = is_at_class s (is_among members) in
+      let both = length-filter_both test (λ c. not (test c)) (λ c. refl) numbers in
+      let count = length-range_with_len 0 (length s.clusters.members) in
+      omega (arith, both, count)

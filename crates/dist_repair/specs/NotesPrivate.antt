@@ -1,11 +1,12 @@
 -- What is noted of the findings of a repair's file, and what it answers. It serves private contracts, and those by
 -- which a search asks its questions.
-use Rattle.std.specs.Prelude.{◌≡◌, ◌↔◌, ◌==◌, ◌||◌, ◌&&◌, ◌⊎◌, ℕ, ◌+◌, ◌≤◌, Bool, true, false, List, [], ◌∷◌, length}
-use Rattle.std.specs.Prelude.{Option, Some, None, if◌then◌else◌, nat_le, nat_lt, slice_index_or, slice_set}
+use Rattle.std.specs.Prelude.{◌≡◌, ◌↔◌, ◌==◌, ◌||◌, ◌&&◌, ◌⊎◌, ℕ, ◌+◌, ◌<◌, ◌≤◌, Bool, true, false, List, [], ◌∷◌}
+use Rattle.std.specs.Prelude.{length, Option, Some, None, if◌then◌else◌, nat_le, nat_lt, slice_index_or, slice_set}
 use Rattle.dist_cert.specs.ClaimRules.{no, yes}
 use Rattle.dist_cert.specs.Form.{Word}
 use Rattle.dist_cert.specs.Rising.{is_among}
-use Rattle.dist_space.specs.Space.{SpaceView}
+use Rattle.dist_space.specs.Space.{SpaceView, cluster_classes, variable_of}
+use Rattle.dist_space.specs.declared.meaning.Meaning.TheVariants.{At}
 use Rattle.dist_subject.specs.Present.{truth_of}
 use Rattle.dist_findings.specs.declared.file.Answered.{Answered}
 use Rattle.dist_findings.specs.declared.file.Answered.TheVariants as answered
@@ -18,6 +19,13 @@ use Rattle.dist_repair.specs.declared.repair.Repair.TheVariants.{Outdated, Least
 use Rattle.dist_repair.specs.Verdicts.{IsHeaderOf}
 use Rattle.dist_repair.specs.declared.verdict.RepairVerdict.{RepairVerdict}
 use Rattle.dist_repair.specs.declared.verdict.RepairVerdict.TheVariants.{Accepted, Refused}
+
+-- ---- installations
+
+-- the variable says that the cluster has moved, to a class of it
+abbrev pub IsClassOf : SpaceView → (variable cluster : ℕ) → Type 0
+IsClassOf s variable cluster = (cluster < length s.clusters.members) × (k : ℕ)
+    × (k < length (cluster_classes s cluster)) × (variable_of s (At cluster k) ≡ variable)
 
 -- ---- questions
 

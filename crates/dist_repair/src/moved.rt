@@ -1,11 +1,10 @@
 //! Installations: their truth values, and the clusters that have moved in them.
-ghost use Rattle.std.specs.Prelude.{◌≡◌, IfOk, length};
+ghost use Rattle.std.specs.Prelude.{◌≡◌, ◌⊎◌, ◌↔◌, ◌≤◌, ℕ, Any, Contains, IfOk, OnOk, Some, length};
 ghost use Rattle.dist_cert.specs.Form.{AreFromOne};
-ghost use Rattle.dist_cert.specs.Rising.{AreRising, is_among};
 ghost use Rattle.dist_subject.specs.Present.{truth_of};
-ghost use Rattle.dist_repair.specs.Answered.{is_at_class, moved_in};
+ghost use Rattle.dist_repair.specs.Answered.{moved_in};
+ghost use Rattle.dist_repair.specs.NotesPrivate.{IsClassOf};
 
-use dist_check_group::has;
 use dist_clause::Assignment;
 use dist_space::{Meaning, Space};
 use std::alloc::{AllocError, Global};
@@ -28,29 +27,53 @@ pub(crate) fn values_of(
     Ok(values)
 }
 
-/// Whether a class of a cluster is true in an installation.
-fn is_at_class(space: &Space, members: &[u32], cluster: u32) -> bool
-    requires { AreRising members.now }
-    ensures { result ≡ is_at_class space.now (is_among members.now) cluster }
+/// The cluster of which a variable is a class, if it is one.
+fn cluster_of(space: &Space, variable: u32) -> Option<u32>
+    requires { 1 ≤ variable }
+    ensures { (cluster : ℕ) → IsClassOf space.now variable cluster ↔ (result ≡ Some cluster) }
 {
-    for class in 0..space.class_count(cluster) {
-        if has(members, space.variable(&Meaning::At(cluster, class))) {
-            return true;
-        }
+    if variable > space.variables() {
+        return None;
     }
-    false
+    match space.meaning(variable) {
+        Meaning::At(cluster, _) => Some(cluster),
+        _ => None,
+    }
 }
 
-/// Of how many clusters a class is true in an installation.
-pub(crate) fn moved_in(space: &Space, members: &[u32]) -> u32
-    requires { AreRising members.now }
-    ensures { result ≡ moved_in space.now members.now }
+/// Puts the cluster of which a variable is a class behind others, if it is one.
+fn push_cluster(space: &Space, variable: u32, clusters: &mut Vec<u32>) -> Result<(), AllocError>
+    requires { 1 ≤ variable }
+    ensures { OnOk result ((cluster : ℕ) → Contains clusters.new.items cluster
+        ↔ (Contains clusters.old.items cluster ⊎ IsClassOf space.now variable cluster)) }
 {
-    let mut count: u32 = 0;
-    for cluster in 0..space.clusters().len() {
-        if is_at_class(space, members, cluster) {
-            count += 1;
-        }
+    match cluster_of(space, variable) {
+        Some(cluster) => Ok(clusters.push(cluster)?),
+        None => Ok(()),
     }
-    count
+}
+
+/// The clusters of the classes in an installation.
+fn clusters_in(alloc: Global, space: &Space, members: &[u32]) -> Result<Vec<u32>, AllocError>
+    requires { AreFromOne members.now }
+    ensures { IfOk result (λ clusters. (cluster : ℕ) → Contains clusters.items cluster
+        ↔ Any (λ variable. IsClassOf space.now variable cluster) members.now) }
+{
+    let mut clusters = Vec::new(alloc);
+    for member in members {
+        push_cluster(space, *member, &mut clusters)?;
+    }
+    Ok(clusters)
+}
+
+/// Of how many clusters a class is true in an installation. It costs the members.
+pub(crate) fn moved_in(alloc: Global, space: &Space, members: &[u32]) -> Result<u32, AllocError>
+    requires { AreFromOne members.now }
+    ensures { IfOk result (λ count. count ≡ moved_in space.now members.now) }
+{
+    let mut clusters = clusters_in(alloc, space, members)?;
+    clusters.sort_unstable();
+    clusters.dedup();
+    // There are no more of them than there are clusters.
+    Ok(clusters.len().min(space.clusters().len() as usize) as u32)
 }

@@ -124,7 +124,7 @@ impl Notes {
         if !has(members, self.words.own) {
             return Ok(());
         }
-        let count = moved_in(space, members);
+        let count = moved_in(alloc, space, members)?;
         if !self.is_fewer(count) {
             return Ok(());
         }
