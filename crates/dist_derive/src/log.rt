@@ -161,7 +161,8 @@ impl Log {
     }
 
     /// Whether the assignment in which exactly the members of a set are true is a model of the input clauses. It costs the
-    /// clauses without a negative literal, and those of which the rarest negative literal is false.
+    /// clauses without a negative literal, and those of which the rarest negative literal is false; of those that begin
+    /// alike up to a true literal, one.
     pub fn holds(&self, trues: &VariableSet) -> bool
         requires { trues.now.variables ≡ self.now.variables }
         ensures { (value : ℕ → Bool) → GivesTrue value trues.now.members
