@@ -91,10 +91,10 @@ parted part =
     ∙ take-append-drop (prefix_len is_ascii_digit rest) rest in
     sym (ap (λ (s : List ℕ). text_start part ++ s) two ∙ one)
 
-after_text-halts : (part : List ℕ) → Halts other_byte (after_text part)
+pub after_text-halts : (part : List ℕ) → Halts other_byte (after_text part)
 after_text-halts part = subst (λ n. Halts other_byte (drop n part)) (sym (length-start other_byte part)) (halts-drop other_byte part)
 
-after_turn-halts : (part : List ℕ) → Halts is_ascii_digit (after_turn part)
+pub after_turn-halts : (part : List ℕ) → Halts is_ascii_digit (after_turn part)
 after_turn-halts part = subst (λ n. Halts is_ascii_digit (drop n (after_text part))) (sym (length-start is_ascii_digit (after_text part)))
     (halts-drop is_ascii_digit (after_text part))
 

@@ -1,6 +1,6 @@
 -- The numbers that digits write: how they grow, and how they compare.
 use Rattle.std.proofs.Common.{◌≡◌, ◌≢◌, ℕ, zero, suc, ◌+◌, ◌-◌, ◌*◌, ◌<◌, ◌≤◌, Bool, true, false, List, [], ◌∷◌, ◌++◌, length, get_or, take, drop}
-use Rattle.std.proofs.Common.{take-append-drop, nat_cmp, ◌==◌, eqb-true, one-add, inl, inr, refl, sym, ap, ap₂, ◌∙◌, arith, le_trans, lt_of_lt_of_le}
+use Rattle.std.proofs.Common.{take-append-drop, nat_cmp, ◌==◌, eqb-true, one-add, inl, inr, refl, sym, ap, ◌∙◌, arith, le_trans, lt_of_lt_of_le}
 use Rattle.std.specs.Char.{is_ascii_digit, digit_value}
 use Rattle.std.specs.Cmp.Lexicographic.{slice_cmp}
 use Rattle.std.specs.List.{list_all, prefix_len}
@@ -75,6 +75,13 @@ without_zeros-first (d ∷ ds) = elim (cases_Bool (is_zero d)) [
   | inr other ↦ rw other other
 ]
 
+pub value_of_none : (ds : List ℕ) → length (without_zeros ds) ≡ 0 → digits_value 10 ds ≡ 0
+value_of_none ds none = sym (without_zeros-value ds) ∙ no_value (without_zeros ds) none
+  where
+    no_value : (ds : List ℕ) → length ds ≡ 0 → digits_value 10 ds ≡ 0
+    no_value [] e = refl
+    no_value (d ∷ ds) e = absurd (omega (arith, e))
+
 -- ---- numbers of equally many digits
 
 step_cmp : (n m p q x y : ℕ) → p < 10 → q < 10 → x ≡ p + 48 → y ≡ q + 48 → nat_cmp (n * 10 + p) (m * 10 + q) ≡ ordering_then (nat_cmp n m) (nat_cmp x y)
@@ -140,11 +147,3 @@ digits_cmp xs ys a b f g = elim (cases_order (length xs) (length ys)) [
         (nat_cmp-greater (digits_value 10 xs) (digits_value 10 ys) (shorter_is_less ys xs b a f more))
   ]
 ]
-
--- the same of digits with leading zeros, by what the code has left of them
-pub trimmed_cmp : (a b xs ys : List ℕ) → list_all is_ascii_digit a ≡ true → list_all is_ascii_digit b ≡ true → xs ≡ without_zeros a → ys ≡ without_zeros b →
-    ordering_then (nat_cmp (length xs) (length ys)) (slice_cmp nat_cmp xs ys) ≡ nat_cmp (digits_value 10 a) (digits_value 10 b)
-trimmed_cmp a b xs ys all all' e f =
-    rw (e, f) (sym (digits_cmp (without_zeros a) (without_zeros b) (without_zeros-all a all) (without_zeros-all b all') (without_zeros-first a)
-    (without_zeros-first b))
-    ∙ ap₂ nat_cmp (without_zeros-value a) (without_zeros-value b))

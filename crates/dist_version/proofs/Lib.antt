@@ -1,7 +1,9 @@
 pub mod Density
 pub mod Digits
 pub mod Fronts
+pub mod InStep
 pub mod Lighter
+pub mod Shortest
 pub mod Steps
 pub mod Then
 pub mod Turns

@@ -1,7 +1,7 @@
 -- The order of two parts, turn by turn.
 use Rattle.std.proofs.Common.{◌≡◌, ◌≢◌, ℕ, zero, suc, ◌+◌, ◌-◌, ◌<◌, ◌≤◌, add-zero, add-suc, add-one, one-add, true≢false, Bool, true, false, not, ◌==◌, List}
 use Rattle.std.proofs.Common.{[], ◌∷◌, ◌++◌, length, map, take, drop, length-take, length-drop, ℤ, pos, Ordering, Less, Equal, Greater, int_cmp, nat_cmp, refl}
-use Rattle.std.proofs.Common.{sym, ap, ◌∙◌, inl, inr, arith}
+use Rattle.std.proofs.Common.{sym, ap, ap₂, ◌∙◌, inl, inr, arith}
 use Rattle.std.specs.Char.{is_ascii_digit, is_ascii_alphabetic}
 use Rattle.std.specs.List.{prefix_len, list_all}
 use Rattle.std.specs.Ordering.{ordering_then, ordering_reverse}
@@ -133,7 +133,7 @@ first_turn (x ∷ xs) zs = ap (λ ws. weights_cmp ws zs) (weights_of-turn (x ∷
 -- ---- one turn of both
 
 -- the weight of a byte is not that of the end
-abbrev IsNonzero : ℤ → Type 0
+abbrev pub IsNonzero : ℤ → Type 0
 IsNonzero z = (int_cmp (pos 0) z ≢ Equal) × (int_cmp z (pos 0) ≢ Equal)
 
 int_cmp-pos : (m n : ℕ) → int_cmp (pos m) (pos n) ≡ nat_cmp m n
@@ -149,7 +149,7 @@ letter_positive : (b : ℕ) → is_ascii_alphabetic b ≡ true → 0 < b
 letter_positive zero h = absurd (true≢false (sym h))
 letter_positive (suc b) h = omega arith
 
-weight_nonzero : (b : ℕ) → IsNonzero (weight_of b)
+pub weight_nonzero : (b : ℕ) → IsNonzero (weight_of b)
 weight_nonzero b = elim (cases_Bool (b == 126)) [
   | inl tilde ↦ rw tilde (λ e. cc, λ e. cc)
   | inr other ↦ elim (cases_Bool (is_ascii_alphabetic b)) [
@@ -177,6 +177,11 @@ part_cmp-turn a b =
     ∙ alike_right _ _ (first_turn b) _
     ∙ by_texts (text_start a) (text_start b) (number_of a) (number_of b) (weights_of (after_turn a)) (weights_of (after_turn b))
 
+-- parts of the same weights compare alike
+pub part_cmp-alike : (a b x y : List ℕ) → weights_of a ≡ weights_of x → weights_of b ≡ weights_of y → part_cmp a b ≡ part_cmp x y
+unfolding part_cmp
+part_cmp-alike a b x y e f = ap₂ weights_cmp e f
+
 pub part_cmp-empty : part_cmp [] [] ≡ Equal
 unfolding part_cmp weights_of
 part_cmp-empty = refl
@@ -195,14 +200,19 @@ pub after_turn-shorter_by_one : (part : List ℕ) → length (after_turn part) �
 after_turn-shorter_by_one [] = omega arith
 after_turn-shorter_by_one (x ∷ xs) = omega (arith, after_turn_shorter x xs)
 
--- one turn, by what the code has found of it
+-- by the order of the first turns
+pub part_cmp-by_turns : (a b : List ℕ) (order : Ordering)
+    → order ≡ ordering_then (weights_cmp (text_weights a) (text_weights b)) (nat_cmp (number_of a) (number_of b))
+    → part_cmp a b ≡ ordering_then order (part_cmp (after_turn a) (after_turn b))
+part_cmp-by_turns a b order is = rw is (part_cmp-turn a b ∙ then_assoc (weights_cmp (text_weights a) (text_weights b)) (nat_cmp (number_of a) (number_of b))
+    (part_cmp (after_turn a) (after_turn b)))
+
+-- the same by the texts and the digits of the turns
 pub part_cmp-step : (a b s t d e : List ℕ) (order : Ordering) → s ≡ text_start a → t ≡ text_start b → d ≡ digit_start (after_text a)
     → e ≡ digit_start (after_text b) →
     order ≡ ordering_then (weights_cmp (map weight_of s) (map weight_of t)) (nat_cmp (digits_value 10 d) (digits_value 10 e))
     → part_cmp a b ≡ ordering_then order (part_cmp (after_turn a) (after_turn b))
-part_cmp-step a b s t d e order f g h k is =
-    rw (is, f, g, h, k) (part_cmp-turn a b ∙ then_assoc (weights_cmp (text_weights a) (text_weights b)) (nat_cmp (number_of a) (number_of b))
-    (part_cmp (after_turn a) (after_turn b)))
+part_cmp-step a b s t d e order f g h k is = part_cmp-by_turns a b order (is ∙ rw (f, g, h, k) refl)
 
 pub part_cmp-ended : (a b : List ℕ) → length a ≡ 0 → length b ≡ 0 → Equal ≡ part_cmp a b
 part_cmp-ended [] [] h k = sym part_cmp-empty

@@ -76,7 +76,7 @@ impl Version {
     fn text_after(&self, tildes: usize) -> Result<SmallVec<u8, 16>, AllocError>
         ensures { IfOk result (λ text. text.items ≡ above_text self.now tildes) }
     {
-        let mut text = SmallVec::from_slice(*self.text.allocator(), self.text())?;
+        let mut text = SmallVec::from_slice(self.text.allocator(), self.text())?;
         match self.revision() {
             Some(revision) => push_extension(&mut text, revision, tildes)?,
             None => {
@@ -97,10 +97,7 @@ impl Version {
         ensures below { IfOk result (λ after. (other : List ℕ) → IsBelow self.now other → length other ≤ tildes → IsBelow after other) }
     {
         // The upstream version ends where it did, since all is put behind it.
-        Ok(Version {
-            text: self.text_after(tildes)?,
-            places: self.places,
-        })
+        Version::keep(self.text_after(tildes)?, self.places())
     }
 
     /// A version below this one: as many tildes as the text has bytes, and one more.
@@ -108,17 +105,15 @@ impl Version {
         ensures text { IfOk result (λ below. below ≡ below_text self.now) }
         ensures below { IfOk result (λ below. IsBelow below self.now) }
     {
-        let mut text = SmallVec::new(*self.text.allocator());
+        let mut text = SmallVec::new(self.text.allocator());
         let end = self.text().len() + 1;
         push_tildes(&mut text, end)?;
-        Ok(Version {
-            text,
-            places: Places {
-                epoch: 0,
-                start: 0,
-                end,
-            },
-        })
+        let places = Places {
+            epoch: 0,
+            start: 0,
+            end,
+        };
+        Version::keep(text, places)
     }
 
     /// This version without its rebuild suffix, a final `+b` and one or more digits, which is taken off once and only where a version is left.
@@ -126,10 +121,10 @@ impl Version {
         ensures { IfOk result (λ version. version ≡ without_rebuild_text self.now) }
     {
         match rebuilt(self.text()) {
-            Some((base, places)) => Ok(Version {
-                text: SmallVec::from_slice(*self.text.allocator(), base)?,
-                places,
-            }),
+            Some((base, places)) => {
+                let text = SmallVec::from_slice(self.text.allocator(), base)?;
+                Version::keep(text, places)
+            }
             None => self.try_clone(),
         }
     }

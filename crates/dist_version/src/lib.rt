@@ -1,25 +1,27 @@
 //! Debian versions: read, kept and compared by Debian Policy 5.6.12; and versions just above and below a given one.
 //!
 //! A version keeps its text and the places of its parts. Comparing costs the bytes of the shorter text, takes no memory, and
-//! passes what the texts begin with alike many bytes at a time. The order is defined by weights of bytes (`specs/Order.antt`);
+//! passes what the texts begin with alike many bytes at a time. So that it does, a number with many leading zeros is kept without them too (`src/kept.rt`). The order is defined by weights of bytes (`specs/Order.antt`);
 //! a change of the order is a change there first.
 #![tactic(auto)]
 
-ghost use Rattle.std.specs.Prelude.{◌≡◌, ◌↔◌, ℕ, List, None, IfOk, IsTrue, bytes_eq};
-ghost use Rattle.std.specs.Option.{option_copied};
+ghost use Rattle.std.specs.Prelude.{◌≡◌, ◌↔◌, ℕ, List, [], None, IfOk, IsTrue, bytes_eq};
+ghost use Rattle.std.specs.Option.{option_copied, unwrap_or};
 ghost use Rattle.dist_base.specs.Answers.{Answers};
 ghost use Rattle.dist_version.specs.Spelling.{Spells, ReadsVersion, parts_of, epoch_of, upstream_of, revision_of};
 ghost use Rattle.dist_version.specs.Faults.{fault_of, IsTextFault};
-ghost use Rattle.dist_version.specs.Order.{version_cmp};
-ghost use Rattle.dist_version.specs.Kept.{Keeps};
+ghost use Rattle.dist_version.specs.Order.{version_cmp, weights_of};
+ghost use Rattle.dist_version.specs.Kept.{Keeps, KeepsText, text_of};
 
 mod between;
 mod error;
+mod kept;
 mod laws;
 mod order;
 mod reading;
 
 pub use error::VersionError;
+use kept::Text;
 pub use laws::{
     equal_is_neither_below, order_is_total, rebuilds_are_taken_off, texts_are_exact,
     versions_are_dense, weights_decide,
@@ -34,20 +36,22 @@ use std::marker::Model;
 /// The greatest epoch.
 pub const MAX_EPOCH: u32 = 2_147_483_647;
 
-/// A version, seen as its text. The text is kept once, with the places of its parts.
+/// A version, seen as its text. The text is kept once, with the epoch and the places where the upstream version starts and ends.
 #[derive(Debug, Drop)]
 pub struct Version {
-    /// Most texts are short, and take no memory of their own.
-    text: SmallVec<u8, 16>,
-    places: Places,
+    text: Text,
+    epoch: u32,
+    /// Only zeros before an epoch could make it larger, and no version takes more room for their sake.
+    start: u32,
+    end: usize,
 }
 
 impl Model for Version {
     ghost Value = { List ℕ };
 
-    ghost view = { λ v. v.text.items };
+    ghost view = { λ v. text_of v.text };
 
-    ghost invariant = { λ v. Keeps v.text.items v.places.epoch v.places.start v.places.end };
+    ghost invariant = { λ v. KeepsText v.text v.epoch v.start v.end };
 }
 
 impl Version {
@@ -58,7 +62,32 @@ impl Version {
     {
         let places = places_of(bytes)?;
         let text = SmallVec::from_slice(alloc, bytes)?;
-        Ok(Version { text, places })
+        Ok(Version::keep(text, places)?)
+    }
+
+    /// The version of a text with these places. More zeros before an epoch than a `u32` counts are want of memory.
+    fn keep(text: SmallVec<u8, 16>, places: Places) -> Result<Version, AllocError>
+        requires { Keeps text.items places.epoch places.start places.end }
+        ensures { IfOk result (λ version. version ≡ text.items) }
+    {
+        let start = u32::try_from(places.start).map_err(|_| AllocError)?;
+        Ok(Version {
+            text: Text::new(text, places)?,
+            epoch: places.epoch,
+            start,
+            end: places.end,
+        })
+    }
+
+    /// The places of the parts in the text.
+    fn places(&self) -> Places
+        ensures { Keeps self.now result.epoch result.start result.end }
+    {
+        Places {
+            epoch: self.epoch,
+            start: self.start as usize,
+            end: self.end,
+        }
     }
 
     /// The text, as it was read.
@@ -74,25 +103,21 @@ impl Version {
     pub fn epoch(&self) -> u32
         ensures { result ≡ epoch_of self.now }
     {
-        self.places.epoch
+        self.epoch
     }
 
     /// The upstream version.
     pub fn upstream(&self) -> &[u8]
         ensures { result.now ≡ upstream_of self.now }
     {
-        &self.text()[self.places.start..self.places.end]
+        self.places().upstream(self.text())
     }
 
     /// The revision, where the text has one.
     pub fn revision(&self) -> Option<&[u8]>
         ensures { option_copied result ≡ revision_of self.now }
     {
-        if self.places.end < self.text().len() {
-            Some(&self.text()[self.places.end + 1..])
-        } else {
-            None
-        }
+        self.places().revision(self.text())
     }
 
     /// Compares two versions. Equal versions may differ in their texts, as `1.0` and `0:1.00-0` do.
@@ -106,7 +131,7 @@ impl Version {
         }
     }
 
-    /// The order by epoch, upstream version and revision, where a missing revision is an empty part.
+    /// The order by epoch, upstream version and revision.
     fn compare_by_parts(&self, other: &Version) -> Ordering
         ensures { result ≡ version_cmp self.now other.now }
     {
@@ -114,25 +139,39 @@ impl Version {
         if order.is_ne() {
             return order;
         }
-        let order = compare_parts(self.upstream(), other.upstream());
+        let order = compare_parts(self.upstream_to_compare(), other.upstream_to_compare());
         if order.is_ne() {
             return order;
         }
-        compare_parts(
-            self.revision().unwrap_or(&[]),
-            other.revision().unwrap_or(&[]),
-        )
+        compare_parts(self.revision_to_compare(), other.revision_to_compare())
+    }
+
+    /// What the upstream version is compared by.
+    fn upstream_to_compare(&self) -> &[u8]
+        ensures { weights_of result.now ≡ weights_of (upstream_of self.now) }
+    {
+        match &self.text {
+            Text::Plain(_) => self.upstream(),
+            Text::Padded(padded) => padded.upstream.as_slice(),
+        }
+    }
+
+    /// What the revision is compared by. A missing one is an empty part.
+    fn revision_to_compare(&self) -> &[u8]
+        ensures { weights_of result.now ≡ weights_of (unwrap_or (revision_of self.now) []) }
+    {
+        match &self.text {
+            Text::Plain(_) => self.revision().unwrap_or(&[]),
+            Text::Padded(padded) => padded.revision.as_slice(),
+        }
     }
 
     /// The same version, with a text of its own.
     pub fn try_clone(&self) -> Result<Version, AllocError>
         ensures { IfOk result (λ version. version ≡ self.now) }
     {
-        let text = SmallVec::from_slice(*self.text.allocator(), self.text())?;
-        Ok(Version {
-            text,
-            places: self.places,
-        })
+        let text = SmallVec::from_slice(self.text.allocator(), self.text())?;
+        Version::keep(text, self.places())
     }
 }
 

@@ -1,21 +1,22 @@
-//! The order of two parts of versions, by turns: a start without digits, and then a run of digits, which is never computed.
-ghost use Rattle.std.specs.Prelude.{◌≡◌, ◌+◌, ◌≤◌, IsTrue, false, length, map, take, drop, not, ◌==◌};
+//! The order of two parts of versions, by turns: a start without digits, and then a run of digits, which is never computed. Both parts are walked in
+//! step, so that a comparison ends with the shorter one.
+ghost use Rattle.std.specs.Prelude.{◌≡◌, ◌+◌, ◌≤◌, IsTrue, false, length, map, take, drop, not, ◌==◌, min, nat_lt};
 ghost use Rattle.std.specs.Char.{is_ascii_digit};
 ghost use Rattle.std.specs.List.{list_all, prefix_len, suffix_len};
-ghost use Rattle.std.specs.Ordering.{nat_cmp, ordering_then};
+ghost use Rattle.std.specs.Ordering.{int_cmp, nat_cmp, ordering_then};
 ghost use Rattle.std.specs.Str.Parse.{digits_value};
 ghost use Rattle.dist_base.specs.Ascii.{digit_zero};
 ghost use Rattle.dist_version.specs.Between.{ends_in_digit};
-ghost use Rattle.dist_version.specs.Order.{weight_of, weight_at, text_start, digit_start, after_text, after_turn, weights_cmp, part_cmp};
+ghost use Rattle.dist_version.specs.Order.{weight_of, weight_at, text_start, digit_start, after_text, after_turn, number_of, weights_cmp, part_cmp};
 
 use std::cmp::Ordering;
 
 /// What a part begins with, and what follows.
 #[derive(Clone, Copy)]
-struct Turn<'a> {
-    text: &'a [u8],
-    digits: &'a [u8],
-    rest: &'a [u8],
+pub(crate) struct Turn<'a> {
+    pub(crate) text: &'a [u8],
+    pub(crate) digits: &'a [u8],
+    pub(crate) rest: &'a [u8],
 }
 
 /// How many bytes stand before the first digit.
@@ -37,7 +38,7 @@ fn digits_len(part: &[u8]) -> usize
 }
 
 /// What a part begins with: its bytes before the first digit, and the digits after them.
-fn next_turn(part: &[u8]) -> Turn<'_>
+pub(crate) fn next_turn(part: &[u8]) -> Turn<'_>
     ensures text { result.text.now ≡ text_start part.now }
     ensures digits { result.digits.now ≡ digit_start (after_text part.now) }
     ensures rest { result.rest.now ≡ after_turn part.now }
@@ -59,72 +60,113 @@ fn weight(byte: u8) -> i16
     }
 }
 
-/// The weight at a place, which is 0 past the end.
-fn weight_in(text: &[u8], place: usize) -> i16
-    ensures { result ≡ weight_at (map weight_of text.now) place }
+/// The weight of the first byte, which is 0 of a digit and past the end.
+fn first_weight(part: &[u8]) -> i16
+    ensures { result ≡ weight_at (map weight_of (text_start part.now)) 0 }
 {
-    match text.get(place) {
-        Some(byte) => weight(*byte),
-        None => 0,
+    match part.first() {
+        Some(byte) if !byte.is_ascii_digit() => weight(*byte),
+        _ => 0,
     }
 }
 
-/// Compares two starts without digits by the weights of their bytes.
-fn compare_texts(a: &[u8], b: &[u8]) -> Ordering
-    ensures { result ≡ weights_cmp (map weight_of a.now) (map weight_of b.now) }
+/// Whether a byte that is no digit stands first.
+fn begins_with_text(part: &[u8]) -> bool
+    ensures { result ≡ nat_lt 0 (prefix_len (λ byte. not (is_ascii_digit byte)) part.now) }
 {
-    for place in 0..a.len().max(b.len()) {
-        let order = weight_in(a, place).cmp(&weight_in(b, place));
-        if order.is_ne() {
+    match part.first() {
+        Some(byte) => !byte.is_ascii_digit(),
+        None => false,
+    }
+}
+
+/// Compares the first bytes by their weights.
+fn compare_heads(a: &[u8], b: &[u8]) -> Ordering
+    ensures { result ≡ int_cmp (weight_at (map weight_of (text_start a.now)) 0) (weight_at (map weight_of (text_start b.now)) 0) }
+{
+    first_weight(a).cmp(&first_weight(b))
+}
+
+/// Compares two starts without digits by the weights of their bytes, up to the first that differ.
+fn compare_texts(a: &[u8], b: &[u8]) -> Ordering
+    ensures { result ≡ weights_cmp (map weight_of (text_start a.now)) (map weight_of (text_start b.now)) }
+{
+    let mut a = a;
+    let mut b = b;
+    loop {
+        let order = compare_heads(a, b);
+        if order.is_ne() || !begins_with_text(a) {
             return order;
         }
+        a = &a[1..];
+        b = &b[1..];
     }
-    Ordering::Equal
 }
 
 /// How many zeros stand at the start.
-fn zeros_len(digits: &[u8]) -> usize
-    ensures value { result ≡ prefix_len (λ digit. digit == digit_zero) digits.now }
-    ensures within { result ≤ length digits.now }
+fn zeros_len(part: &[u8]) -> usize
+    ensures value { result ≡ prefix_len (λ digit. digit == digit_zero) part.now }
+    ensures within { result ≤ length part.now }
 {
-    digits.iter().take_while(|digit| **digit == b'0').count()
+    part.iter().take_while(|digit| **digit == b'0').count()
 }
 
-/// The digits without the zeros that they begin with.
-fn without_zeros(digits: &[u8]) -> &[u8]
-    ensures { result.now ≡ drop (prefix_len (λ digit. digit == digit_zero) digits.now) digits.now }
+/// A part without the zeros that it begins with.
+pub(crate) fn without_zeros(part: &[u8]) -> &[u8]
+    ensures { result.now ≡ drop (prefix_len (λ digit. digit == digit_zero) part.now) part.now }
 {
-    &digits[zeros_len(digits)..]
+    &part[zeros_len(part)..]
 }
 
-/// Compares two numbers by their digits.
-fn compare_digits(a: &[u8], b: &[u8]) -> Ordering
-    requires a { IsTrue (list_all is_ascii_digit a.now) }
-    requires b { IsTrue (list_all is_ascii_digit b.now) }
-    ensures { result ≡ nat_cmp (digits_value 10 a.now) (digits_value 10 b.now) }
+/// Whether a digit stands first.
+fn begins_with_digit(part: &[u8]) -> bool
+    ensures { result ≡ nat_lt 0 (prefix_len is_ascii_digit part.now) }
+{
+    match part.first() {
+        Some(byte) => byte.is_ascii_digit(),
+        None => false,
+    }
+}
+
+/// At how many places from the start both have a digit.
+fn common_digits_len(a: &[u8], b: &[u8]) -> usize
+    ensures within_a { result ≤ length a.now }
+    ensures within_b { result ≤ length b.now }
+    ensures value { result ≡ min (prefix_len is_ascii_digit a.now) (prefix_len is_ascii_digit b.now) }
+{
+    let shorter = a.len().min(b.len());
+    let mut end = 0;
+    while end < shorter && a[end].is_ascii_digit() && b[end].is_ascii_digit() {
+        end += 1;
+    }
+    end
+}
+
+/// Compares the numbers that two parts begin with. The one with more digits behind its zeros is the greater.
+fn compare_numbers(a: &[u8], b: &[u8]) -> Ordering
+    ensures { result ≡ nat_cmp (digits_value 10 (digit_start a.now)) (digits_value 10 (digit_start b.now)) }
 {
     let a = without_zeros(a);
     let b = without_zeros(b);
-    let order = a.len().cmp(&b.len());
-    if order.is_ne() {
-        return order;
+    let end = common_digits_len(a, b);
+    match (begins_with_digit(&a[end..]), begins_with_digit(&b[end..])) {
+        (true, false) => Ordering::Greater,
+        (false, true) => Ordering::Less,
+        _ => a[..end].cmp(&b[..end]),
     }
-    a.cmp(&b)
 }
 
-/// Compares two turns: their texts, and then their numbers.
-fn compare_turns(a: &Turn, b: &Turn) -> Ordering
-    requires a { IsTrue (list_all is_ascii_digit a.now.digits.now) }
-    requires b { IsTrue (list_all is_ascii_digit b.now.digits.now) }
+/// Compares the first turns of two parts, no further than to where their order is decided.
+fn compare_turns(a: &[u8], b: &[u8]) -> Ordering
     ensures { result ≡ ordering_then
-        (weights_cmp (map weight_of a.now.text.now) (map weight_of b.now.text.now))
-        (nat_cmp (digits_value 10 a.now.digits.now) (digits_value 10 b.now.digits.now)) }
+        (weights_cmp (map weight_of (text_start a.now)) (map weight_of (text_start b.now)))
+        (nat_cmp (number_of a.now) (number_of b.now)) }
 {
-    let order = compare_texts(a.text, b.text);
+    let order = compare_texts(a, b);
     if order.is_ne() {
         return order;
     }
-    compare_digits(a.digits, b.digits)
+    compare_numbers(&a[text_len(a)..], &b[text_len(b)..])
 }
 
 /// How many bytes are compared at a step.
@@ -186,14 +228,12 @@ pub(crate) fn compare_parts(a: &[u8], b: &[u8]) -> Ordering
     let mut b = b;
     while !a.is_empty() || !b.is_empty() {
         let (left, right) = after_common(a, b);
-        let first = next_turn(left);
-        let second = next_turn(right);
-        let order = compare_turns(&first, &second);
+        let order = compare_turns(left, right);
         if order.is_ne() {
             return order;
         }
-        a = first.rest;
-        b = second.rest;
+        a = next_turn(left).rest;
+        b = next_turn(right).rest;
     }
     Ordering::Equal
 }

@@ -5,7 +5,7 @@ ghost use Rattle.std.specs.List.{list_all};
 ghost use Rattle.std.specs.Option.{option_map, option_map_or, option_or, option_copied};
 ghost use Rattle.std.specs.Str.Parse.{digits_value};
 ghost use Rattle.dist_base.specs.Ascii.{hyphen};
-ghost use Rattle.dist_version.specs.Spelling.{split_once, rsplit_once, is_upstream_byte, is_revision_byte, epoch_digits, after_epoch, epoch_of};
+ghost use Rattle.dist_version.specs.Spelling.{split_once, rsplit_once, is_upstream_byte, is_revision_byte, epoch_digits, after_epoch, epoch_of, upstream_of, revision_of};
 ghost use Rattle.dist_version.specs.Faults.{fault_of, epoch_fault, upstream_fault, revision_fault, bad_byte};
 ghost use Rattle.dist_version.specs.Kept.{Keeps};
 
@@ -19,6 +19,28 @@ pub(crate) struct Places {
     pub(crate) epoch: u32,
     pub(crate) start: usize,
     pub(crate) end: usize,
+}
+
+impl Places {
+    /// The upstream version in the text of which these are the places.
+    pub(crate) fn upstream<'a>(self, text: &'a [u8]) -> &'a [u8]
+        requires { Keeps text.now self.epoch self.start self.end }
+        ensures { result.now ≡ upstream_of text.now }
+    {
+        &text[self.start..self.end]
+    }
+
+    /// The revision in that text.
+    pub(crate) fn revision<'a>(self, text: &'a [u8]) -> Option<&'a [u8]>
+        requires { Keeps text.now self.epoch self.start self.end }
+        ensures { option_copied result ≡ revision_of text.now }
+    {
+        if self.end < text.len() {
+            Some(&text[self.end + 1..])
+        } else {
+            None
+        }
+    }
 }
 
 /// What stands before and after the first such byte.

@@ -1,17 +1,20 @@
-use Rattle.std.proofs.Common.{sym, ap, ◌∙◌}
-use Rattle.dist_version.specs.Faults.{fault_of}
+use Rattle.std.proofs.Common.{ℕ, List, sym, ◌∙◌, subst}
+use Rattle.std.proofs.lemmas.Result.{IfOk-weaker}
+use Rattle.dist_version.specs.Order.{IsBelow}
 use Rattle.dist_version.proofs.Density.{above_keeps, above, below_greater}
 use Rattle.dist_version.proofs.Version.after.Goals as goal
 
-pub invariant_of-result : goal.invariant_of-result
-invariant_of-result c =
-    let places = c.self.inside.places in
-    above_keeps c.self.inside.text.items c.in_ok-text_after.field-0.items c.args.tildes places.epoch places.start places.end
-    (rw c.self.view_is c.in_ok-text_after.ensures) c.self.invariant
+pub keep-requires : goal.keep-requires
+keep-requires c =
+    let places = c.places.result in
+    above_keeps c.args.self.now c.in_ok-text_after.field-0.items c.args.tildes places.epoch places.start places.end c.in_ok-text_after.ensures c.places.ensures
 
 pub returns-clause-above : goal.returns-clause-above
-returns-clause-above c = rw c.in_ok-text_after.ensures (above c.args.self.now c.args.tildes (ap fault_of (sym c.self.view_is) ∙ c.self.invariant.sound))
+returns-clause-above c = IfOk-weaker c.keep.result _ _
+    (λ after e. subst (λ (text : List ℕ). IsBelow c.args.self.now text) (sym (e ∙ c.in_ok-text_after.ensures))
+    (above c.args.self.now c.args.tildes c.places.ensures.sound)) c.keep.ensures
 
 pub returns-clause-below : goal.returns-clause-below
-returns-clause-below c = λ other less size. rw c.in_ok-text_after.ensures
-    (below_greater c.args.self.now other c.args.tildes (ap fault_of (sym c.self.view_is) ∙ c.self.invariant.sound) less size)
+returns-clause-below c = IfOk-weaker c.keep.result _ _ (λ after e other less size.
+    subst (λ (text : List ℕ). IsBelow text other) (sym (e ∙ c.in_ok-text_after.ensures))
+    (below_greater c.args.self.now other c.args.tildes c.places.ensures.sound less size)) c.keep.ensures
