@@ -244,6 +244,27 @@ def wide_rows():
             yield f"the clauses of futures of {told}", (40_000, lambda n, f=field, k=kind: futures(wide_list(n, f, k)))
             yield f"the health of {told}", (40_000, lambda n, f=field, k=kind: judged(wide_list(n, f, k), "p 1\n"))
 
+# What stands behind `1.` in a long version.
+RUNS = {
+    "digits": lambda n: "9" * (20 * n),
+    "zeros": lambda n: "0" * (20 * n) + "5",
+    "letters": lambda n: "a" * (20 * n),
+}
+
+
+def asking_long(version, n):
+    """A package of a long version, and so many that ask for a lesser one of it."""
+    asks = "".join(stanza(f"p{k:06}", more="Depends: a (>= 1.0)\n") for k in range(n))
+    return stanza("a", version) + asks, f"a {version}\n" + "".join(f"p{k:06} 1\n" for k in range(n))
+
+
+def long_rows():
+    """A version with a long run of one kind, compared with as many short ones."""
+    for kind, run in RUNS.items():
+        yield f"the classes of a version of so many {kind} beside those that its package provides", (200_000, lambda n, run=run: classes(
+            stanza("p", "1." + run(n), "Provides: " + ", ".join(f"v (= 1.{k})" for k in range(n)) + "\n")))
+        yield f"the health of so many that ask for a version of as many {kind}", (100_000, lambda n, run=run: judged(*asking_long("1." + run(n), n)))
+
 
 ROWS = {
     "one stanza of so many different fields": (1_000_000, lambda n: read(stanza("a", more="".join(f"F{k}: \n" for k in shuffled(range(n)))))),
@@ -252,6 +273,7 @@ ROWS = {
     "one package of so many items": (1_000_000, lambda n: read(stanza("a", more="Depends: " + ", ".join(f"b{k}" for k in range(n)) + "\n"))),
     "so many versions of one name": (200_000, lambda n: read("".join(stanza("a", k) for k in shuffled(range(n))))),
     "so many versions with 600 equal bytes in front": (50_000, lambda n: read("".join(stanza("a", "1." + "a" * 600 + str(k)) for k in shuffled(range(n))))),
+    **dict(long_rows()),
     "so many names of one long front": (200_000, lambda n: read("".join(stanza(f"{LONG}{k:07}") for k in shuffled(range(n))))),
     "so many names, the last first": (200_000, lambda n: read("".join(stanza(f"{k:07}") for k in range(n, 0, -1)))),
     "one name provided so many times": (200_000, lambda n: read("".join(stanza(f"p{k}", more="Provides: a\n") for k in range(n)))),
