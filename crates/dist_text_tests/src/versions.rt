@@ -106,6 +106,111 @@ const ORDER: &[Pair] = &[
     ("1-.", Ordering::Greater, "1-a"),
 ];
 
+/// Long runs of zeros, which are taken off beforehand, and of digits and letters, which are walked no further than the other version goes.
+const LONG_RUNS: &[Pair] = &[
+    ("1.2", Ordering::Less, "1.000000000000000003"),
+    (
+        "1.2",
+        Ordering::Equal,
+        "1.00000000000000000000000000000000000000002",
+    ),
+    (
+        "1.000000000000000001",
+        Ordering::Equal,
+        "1.0000000000000000000000000000001",
+    ),
+    ("1.00000000000000009", Ordering::Equal, "1.9"),
+    ("1.00000000000000000", Ordering::Equal, "1."),
+    ("1.00000000000000000", Ordering::Equal, "1.0"),
+    ("1.00000000000000000a", Ordering::Less, "1.a"),
+    ("00000000000000000000a", Ordering::Less, "a"),
+    ("00000000000000000000a", Ordering::Equal, "0a"),
+    ("00000000000000000000", Ordering::Equal, "0"),
+    ("a00000000000000000000b", Ordering::Equal, "a0b"),
+    ("a00000000000000000000b", Ordering::Less, "ab"),
+    ("1.00000000000000000010", Ordering::Greater, "1.9"),
+    ("1.00000000000000000010~", Ordering::Less, "1.10"),
+    ("1-000000000000000002", Ordering::Less, "1-10"),
+    ("1-00000000000000000", Ordering::Equal, "1"),
+    ("1-00000000000000000~", Ordering::Less, "1"),
+    (
+        "2:1.000000000000000000001-000000000000000000003",
+        Ordering::Equal,
+        "2:1.1-3",
+    ),
+    ("000000000000000000002:1", Ordering::Equal, "2:1"),
+    (
+        "1+000000000000000000001-1",
+        Ordering::Less,
+        "1+01-000000000000000000002",
+    ),
+    (
+        "1111111111111111111111111111111111111111",
+        Ordering::Greater,
+        "111111111111111111111111111111111111111",
+    ),
+    (
+        "1111111111111111111111111111111111111111a",
+        Ordering::Greater,
+        "1111111111111111111111111111111111111111",
+    ),
+    (
+        "1111111111111111111111111111112111111111",
+        Ordering::Greater,
+        "1111111111111111111111111111111111111111",
+    ),
+    (
+        "1.1111111111111111111111111111111111111111",
+        Ordering::Greater,
+        "1.2",
+    ),
+    (
+        "1.20000000000000000000000000000000000000000",
+        Ordering::Greater,
+        "1.20",
+    ),
+    (
+        "1.200000000000000000000000000000000000000001",
+        Ordering::Less,
+        "1.200000000000000000000000000000000000000002",
+    ),
+    (
+        "1aaaaaaaaaaaaaaaaaaaaaaaaaaaaaaaaaaaaaaaa",
+        Ordering::Greater,
+        "1aaaaaaaaaaaaaaaaaaaaaaaaaaaaaaaaaaaaaaa",
+    ),
+    (
+        "1aaaaaaaaaaaaaaaaaaaaaaaaaaaaaaaaaaaaaaab",
+        Ordering::Greater,
+        "1aaaaaaaaaaaaaaaaaaaaaaaaaaaaaaaaaaaaaaaa",
+    ),
+    (
+        "1aaaaaaaaaaaaaaaaaaaaaaaaaaaaaaaaaaaaaaaa",
+        Ordering::Less,
+        "1b",
+    ),
+    (
+        "1a~~~~~~~~~~~~~~~~~~~~~~~~~~~~~~~~~~~~~~~~",
+        Ordering::Less,
+        "1a",
+    ),
+    (
+        "1~~~~~~~~~~~~~~~~~~~~~~~~~~~~~~~~~~~~~~~~",
+        Ordering::Less,
+        "1~~~~~~~~~~~~~~~~~~~~~~~~~~~~~~~~~~~~~~~",
+    ),
+    (
+        "1.000000000000000005.000000000000000006",
+        Ordering::Equal,
+        "1.5.6",
+    ),
+    (
+        "1.000000000000000005.000000000000000006",
+        Ordering::Less,
+        "1.5.0000000000000000007",
+    ),
+];
+
 /// The version of a text that is one.
 fn read(alloc: Global, text: &str) -> Option<Version> {
     Version::read(alloc, text.as_bytes()).ok()
@@ -150,6 +255,11 @@ fn wrong_order(alloc: Global, pairs: &[Pair]) -> Option<&'static str> {
 #[test]
 fn compares_as_dpkg_does(rt: HostRuntime) {
     hold(&rt, wrong_order(rt.alloc(), ORDER));
+}
+
+#[test]
+fn compares_long_runs_as_dpkg_does(rt: HostRuntime) {
+    hold(&rt, wrong_order(rt.alloc(), LONG_RUNS));
 }
 
 /// A text, and its first fault.
