@@ -60,6 +60,11 @@ def classes(packages):
     return ["classes", "packages"], packages, ""
 
 
+# All packages are asked for what they need.
+def strong(packages):
+    return ["strong", "packages", "cert"], packages, ""
+
+
 # The clauses of futures, which dist_bench makes.
 def futures(packages):
     return ["bench", "count-future-clauses", "packages"], packages, ""
@@ -206,6 +211,15 @@ def reaching_a_chain(n, essential=False):
     return packages, f"distfuture-certificate 1 strong {mode} 1 {number} {number} {clauses}\n" + lines
 
 
+def learned_again(n):
+    """A package with two needs that are met in two ways each: one way fails at once, and another by seven pigeons in six holes, with so many pairs beside it."""
+    packages = stanza("0p", more="Depends: a | zok, b | zhard\n") + stanza("a", more="Depends: aa, ab\n") + stanza("aa", more="Conflicts: ab\n") + stanza("ab") + stanza("b")
+    packages += "".join(stanza(f"g{k}h{j}", more=f"Provides: h{j}\nConflicts: h{j}\n") for k in range(7) for j in range(6))
+    packages += "".join(stanza(f"l{k:06}") + stanza(f"m{k:06}") for k in range(n))
+    asks = [" | ".join(f"g{k}h{j}" for j in range(6)) for k in range(7)] + [f"l{k:06} | m{k:06}" for k in range(n)]
+    return packages + stanza("zhard", more="Depends: " + ", ".join(asks) + "\n") + stanza("zok")
+
+
 def many_entries(n):
     """A library with n / 4 entries and n / 20 bounds on another name, and n / 2 atoms on the library."""
     entries = ", ".join(f"e{k}" for k in range(n // 4))
@@ -315,6 +329,7 @@ ROWS = {
         stanza("p", more="Provides: " + ", ".join(f"e{k}" for k in range(n // 2)) + "\n"), [("p", f"Provides: e{n // 2 - 1}\n")] * (n // 2))),
     "so many questions that reach one chain, each with a new line": (20_000, lambda n: checked(*reaching_a_chain(n))),
     "so many questions beside as many essential packages, each with a new line": (20_000, lambda n: checked(*reaching_a_chain(n, True))),
+    "a line of one literal that two questions about so many pairs need": (10_000, lambda n: strong(learned_again(n))),
     "the classes of one entry told again and again": (8_000, lambda n: classes(
         stanza("libx", more="Provides: " + ", ".join(["a (= 1)"] * n) + "\n") + stanza("p", more="Conflicts: " + ", ".join(f"a (>= {k})" for k in range(n)) + "\n"))),
     "the clauses of futures of so many entries": (8_000, lambda n: futures(many_entries(n))),

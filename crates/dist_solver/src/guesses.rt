@@ -27,6 +27,8 @@ pub(crate) struct Guesses {
     /// Whether the watched search stands where this question's last line left it.
     stands: bool,
     tests: Tests,
+    /// How many guesses of the two searches failed their tests.
+    failed: u64,
 }
 
 impl Model for Guesses {
@@ -50,6 +52,7 @@ impl Guesses {
                 guessing: true,
                 stands: false,
                 tests,
+                failed: 0,
             }),
             Err(error) => {
                 drop(quick);
@@ -76,12 +79,14 @@ impl Guesses {
                 let model = self
                     .tests
                     .model(alloc, log, assumptions, self.quick.trues())?;
+                self.count_failure(model.is_none());
                 Ok(model.map(Answer::Found))
             }
             Guess::Refutation => {
                 let hints = self
                     .tests
                     .refutation(alloc, log, assumptions, self.quick.hints())?;
+                self.count_failure(hints.is_none());
                 Ok(hints.map(Answer::Refuted))
             }
             Guess::Nothing => Ok(None),
@@ -136,7 +141,20 @@ impl Guesses {
         let turn = self.watched.go()?;
         let end = self.tested(alloc, log, cone, assumptions, turn)?;
         self.stands = end.is_some();
+        self.count_failure(end.is_none());
         Ok(end)
+    }
+
+    /// Counts a guess, if it failed its test.
+    fn count_failure(&mut self, failed: bool)
+        ensures { self.new ≡ self.old }
+    {
+        self.failed = self.failed.saturating_add(u64::from(failed));
+    }
+
+    /// How many guesses of the two searches failed their tests.
+    pub(crate) fn failed(&self) -> u64 {
+        self.failed
     }
 
     /// What the search by watched literals came to, where it passes its test.

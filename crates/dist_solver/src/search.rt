@@ -183,6 +183,12 @@ impl Solver {
     {
         &self.added
     }
+
+    /// How many guesses of the searches failed their tests, for all questions so far. Each of them is a fault of a search,
+    /// which shows in no answer, but may cost a walk over all clauses. A guess that came with a question is not counted.
+    pub fn failed_guesses(&self) -> u64 {
+        self.guesses.failed()
+    }
 }
 
 /// Descends until an answer comes, at most `limit` times; each descent without one adds a line. The cone of the

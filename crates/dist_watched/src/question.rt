@@ -140,7 +140,7 @@ impl Watched {
         Ok(())
     }
 
-    /// Copies the clause of a number, if all its variables lie in the cone. One of fewer than two literals is not watched.
+    /// Copies the clause of a number, if all its variables lie in the cone.
     fn copy(&mut self, log: &Log, number: u32) -> Result<(), AllocError> {
         if number == 0 || number > log.len() {
             return Ok(());
@@ -150,7 +150,12 @@ impl Watched {
             return Ok(());
         }
         let name = self.clauses.add(clause, number)?;
-        if clause.len() < 2 {
+        self.note_unit(name, clause.len())
+    }
+
+    /// Puts a clause with the units, if it is too short to be watched.
+    pub(crate) fn note_unit(&mut self, name: u32, length: usize) -> Result<(), AllocError> {
+        if length < 2 {
             self.units.push(name)?;
         }
         Ok(())

@@ -78,14 +78,17 @@ impl Watched {
         Ok(Turn::Nothing)
     }
 
-    /// The last lesson became the log's clause of this number: it is watched, and its first literal becomes true.
+    /// The last lesson became the log's clause of this number: it is watched, or stands with the units, and its first literal
+    /// becomes true.
     pub fn learned(&mut self, number: u32) -> Result<(), AllocError> {
         let clause = self.analysis.clause();
         let Some(first) = clause.first().copied() else {
             return Ok(());
         };
+        let length = clause.len();
         self.copied = 0;
         let name = self.clauses.add(clause, number)?;
+        self.note_unit(name, length)?;
         self.copied = number;
         if self.values.is_unset(first) {
             self.values.make_true(first, name);

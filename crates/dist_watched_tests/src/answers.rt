@@ -1,4 +1,4 @@
-//! The solver over small clause sets: each of its answers is compared with trying all assignments.
+//! The solver over small clause sets: each of its answers is compared with trying all assignments, and no guess fails its test.
 ghost use Rattle.std.specs.Prelude.{◌≡◌, ◌≤◌, length, IfSome};
 ghost use Rattle.dist_clause.specs.Formula.{IsClauseOver};
 
@@ -103,7 +103,8 @@ fn seed_is_right(alloc: Global, seed: u64, clauses: &ClauseSet, same: ClauseSet)
     match Solver::new(alloc, same, 1000, 10000) {
         Ok(mut solver) => {
             let mut draws = Draws::new(seed.wrapping_add(1000));
-            let right = all_are_right(alloc, &mut draws, clauses, &mut solver);
+            let right = all_are_right(alloc, &mut draws, clauses, &mut solver)
+                && solver.failed_guesses() == 0;
             drop(solver);
             right
         }
