@@ -61,6 +61,16 @@ pub(crate) fn look_at(log: &Log, trail: &Trail, number: u32) -> Look {
     look
 }
 
+/// The last unset literal of a clause.
+pub(crate) fn last_unset(log: &Log, trail: &Trail, number: u32) -> Option<Lit> {
+    for literal in clause_of(log, number).iter().rev() {
+        if trail.truth(*literal) == Truth::Unset {
+            return Some(*literal);
+        }
+    }
+    None
+}
+
 /// The alternative that is tried first: the unset literal with the highest variable.
 pub(crate) fn highest_unset(log: &Log, trail: &Trail, number: u32) -> Option<Lit> {
     let mut best = None;

@@ -1,7 +1,7 @@
 //! The way down from the assumptions: alternatives are decided one after another.
 
 use crate::backward::Way;
-use crate::clauses::{Look, highest_unset, look_at};
+use crate::clauses::Look;
 use crate::forward::{Mark, State};
 use crate::kept::Kept;
 use crate::question::Guess;
@@ -75,11 +75,7 @@ impl Descent {
             let number = first_denial(&kept.state.trail, assumptions).unwrap_or(number);
             return self.refute(log, &kept.state, number);
         }
-        let guess = self.descend(log, &mut kept.state)?;
-        if guess == Guess::Model {
-            kept.list_trues()?;
-        }
-        Ok(guess)
+        self.descend(log, &mut kept.state)
     }
 
     /// The hints that lead to a false clause, where they rest on the assumptions alone.
@@ -141,12 +137,12 @@ impl Descent {
         open: usize,
         number: u32,
     ) -> Result<Option<u32>, AllocError> {
-        match look_at(log, &state.trail, number) {
+        match state.ask(log, open, number) {
             Look::Rests => return Ok(None),
             Look::Conflict => return Ok(Some(number)),
             Look::Unit(literal) => state.trail.set(literal, number)?,
             Look::Open => {
-                if let Some(decision) = highest_unset(log, &state.trail, number) {
+                if let Some(decision) = state.choice(log, open, number) {
                     self.levels.push(Level {
                         start: state.mark(),
                         open,

@@ -1,6 +1,7 @@
 //! What follows from the true literals, and which alternatives are open.
 
-use crate::clauses::{Look, look_at};
+use crate::clauses::{Look, clause_of, highest_unset, last_unset, look_at};
+use crate::hub::{Heaviest, NONE};
 use crate::open::Open;
 use crate::trail::Trail;
 use dist_clause::Lit;
@@ -23,7 +24,29 @@ pub(crate) struct State {
     looked: usize,
     /// Of how many of them the open clauses that they concern have been looked at again.
     settled: usize,
+    pub(crate) heaviest: Heaviest,
 }
+
+/// How many clauses may still be looked at, and which one was looked at last.
+#[derive(Clone, Copy, Debug)]
+struct Looks {
+    left: usize,
+    last: u32,
+}
+
+impl Looks {
+    /// Counts a look at a clause of so many literals.
+    fn with(self, number: u32, length: usize) -> Looks {
+        let cost = (length / LITERALS).max(1);
+        Looks {
+            left: self.left.saturating_sub(cost),
+            last: number,
+        }
+    }
+}
+
+/// So many literals of a clause are looked at for the price of one clause.
+const LITERALS: usize = 8;
 
 impl State {
     pub(crate) fn new(alloc: Global, variables: u32) -> Result<State, AllocError> {
@@ -32,6 +55,7 @@ impl State {
             open: Open::new(alloc, variables)?,
             looked: 0,
             settled: 0,
+            heaviest: NONE,
         })
     }
 
@@ -60,7 +84,7 @@ impl State {
         match look_at(log, &self.trail, number) {
             Look::Conflict => return Ok(true),
             Look::Unit(literal) => self.trail.set(literal, number)?,
-            Look::Open => self.open.push(number)?,
+            Look::Open => self.open.push(log, &self.trail, number)?,
             Look::Rests => {}
         }
         Ok(false)
@@ -86,14 +110,34 @@ impl State {
         if !literal.positive() {
             return Ok(None);
         }
+        let mut cost = 0usize;
         let mut place = log.latest_with(literal.negated());
         while let Some(link) = log.link(place) {
             place = link.next;
+            cost = cost.saturating_add(clause_of(log, link.number).len());
             if self.take(log, link.number)? {
                 return Ok(Some(link.number));
             }
         }
+        self.heaviest = self.heaviest.or(literal, cost);
         Ok(None)
+    }
+
+    /// What the open clause of a number, at a place, asks for.
+    pub(crate) fn ask(&self, log: &Log, place: usize, number: u32) -> Look {
+        match self.open.ask_long(log, &self.trail, place) {
+            Some(look) => look,
+            None => look_at(log, &self.trail, number),
+        }
+    }
+
+    /// The alternative of the open clause of a number, at a place, that is tried first.
+    pub(crate) fn choice(&self, log: &Log, place: usize, number: u32) -> Option<Lit> {
+        if self.open.is_long(place) {
+            last_unset(log, &self.trail, number)
+        } else {
+            highest_unset(log, &self.trail, number)
+        }
     }
 
     /// Looks at the open clauses that came, and again at those of which an alternative became false, until nothing follows;
@@ -188,17 +232,20 @@ impl State {
         most: usize,
     ) -> Result<Option<u32>, AllocError> {
         let mut place = start;
-        let mut left = most;
+        let mut looks = Looks {
+            left: most,
+            last: 0,
+        };
         for _ in 0..=log.variables() {
             let conflict = self.settle(log)?;
-            if conflict.is_some() || left == 0 {
+            if conflict.is_some() || looks.left == 0 {
                 return Ok(conflict);
             }
             let Some(literal) = self.trail.literal(place) else {
                 break;
             };
             place = place.saturating_add(1);
-            let conflict = self.visit_denied(log, literal, &mut left)?;
+            let conflict = self.visit_denied(log, literal, &mut looks)?;
             if conflict.is_some() {
                 return Ok(conflict);
             }
@@ -206,23 +253,29 @@ impl State {
         Ok(None)
     }
 
-    /// Looks at clauses in which a variable stands that is false.
+    /// Looks at clauses in which a variable stands that is false, but not at the one that was looked at last.
     fn visit_denied(
         &mut self,
         log: &Log,
         literal: Lit,
-        left: &mut usize,
+        looks: &mut Looks,
     ) -> Result<Option<u32>, AllocError> {
         if literal.positive() {
             return Ok(None);
         }
         let mut place = log.latest_with(literal.negated());
-        for _ in 0..*left {
+        for _ in 0..looks.left {
             let Some(link) = log.link(place) else {
                 break;
             };
             place = link.next;
-            *left = left.saturating_sub(1);
+            if looks.left == 0 {
+                break;
+            }
+            if link.number == looks.last {
+                continue;
+            }
+            *looks = looks.with(link.number, clause_of(log, link.number).len());
             if self.look_once_more(log, link.number)? {
                 return Ok(Some(link.number));
             }

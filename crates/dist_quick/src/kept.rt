@@ -1,6 +1,7 @@
 //! What follows from a question's first assumption, kept for the next question that begins with it.
 
 use crate::forward::{Mark, State};
+use crate::hub::{Heaviest, NONE, need_of};
 use crate::trail::Truth;
 use dist_clause::Lit;
 use dist_derive::Log;
@@ -12,8 +13,6 @@ struct Stage {
     mark: Mark,
     /// How many of the roots it had looked at.
     roots: usize,
-    /// How many of its variables were true.
-    trues: usize,
 }
 
 /// The consequences of a first assumption are many where they settle this part of all variables.
@@ -29,24 +28,24 @@ const START: Stage = Stage {
         open: 0,
     },
     roots: 0,
-    trues: 0,
 };
 
-/// A state in which a first assumption's consequences stand. New roots are looked at where they stand: all that the state
-/// has come to stays as it is.
+/// A state in which a first assumption's consequences stand, and below them those of a hub that it needs. New roots are looked
+/// at where they stand: all that the state has come to stays as it is.
 #[derive(Debug, Drop)]
 pub(crate) struct Kept {
     pub(crate) state: State,
     /// What the roots alone give, and the number of a clause that is false by them.
     base: Stage,
     broken: Option<u32>,
+    /// The hub that was dear to look at, and how far its consequences go where they are there.
+    heaviest: Heaviest,
+    at_hub: Option<Stage>,
     /// The first assumption of which the consequences are there, and how far they go.
     first: Option<Lit>,
     end: Stage,
     /// From where the question goes on.
     start: Stage,
-    /// The variables that are true: those up to the start, and behind them the others of a guessed model.
-    trues: Vec<u32>,
 }
 
 impl Kept {
@@ -55,10 +54,11 @@ impl Kept {
             state: State::new(alloc, variables)?,
             base: START,
             broken: None,
+            heaviest: NONE,
+            at_hub: None,
             first: None,
             end: START,
             start: START,
-            trues: Vec::new(alloc),
         })
     }
 
@@ -70,17 +70,30 @@ impl Kept {
         }
     }
 
-    /// How many literals a first assumption made true.
+    /// How much is kept: the literals that a first assumption made true, and those that were looked at for a hub.
     pub(crate) fn len(&self) -> usize {
-        if self.first.is_none() {
-            return 0;
+        let literals = if self.first.is_some() {
+            self.end.mark.literals
+        } else {
+            0
+        };
+        if self.at_hub.is_some() {
+            return literals.saturating_add(self.heaviest.cost);
         }
-        self.end.mark.literals
+        literals
     }
 
-    /// The true variables of a guessed model.
-    pub(crate) fn trues(&self) -> &[u32] {
-        &self.trues
+    /// Whether the consequences of a hub are there that the first one of these assumptions needs.
+    pub(crate) fn has_hub_of(&self, log: &Log, assumptions: &[Lit]) -> bool {
+        match assumptions.first() {
+            Some(first) => self.at_hub.is_some() && self.need_of(log, *first).is_some(),
+            None => false,
+        }
+    }
+
+    /// The clause by which an assumption needs the hub.
+    fn need_of(&self, log: &Log, first: Lit) -> Option<u32> {
+        need_of(log, first, self.heaviest.hub?)
     }
 
     /// Makes the assumptions true, and what follows from them; answers the number of a clause that is false then.
@@ -108,9 +121,10 @@ impl Kept {
     /// What follows from the roots alone.
     fn begin(&mut self, log: &Log, roots: &[u32]) -> Result<Option<u32>, AllocError> {
         self.go_back(self.base);
+        self.at_hub = None;
         if self.broken.is_none() && self.base.roots < roots.len() {
             self.broken = self.look_at_new(log, roots)?;
-            self.base = self.stage(roots)?;
+            self.base = self.stage(roots);
             self.start = self.base;
         }
         Ok(self.broken)
@@ -124,18 +138,84 @@ impl Kept {
         first: Lit,
     ) -> Result<Option<u32>, AllocError> {
         self.first = None;
-        let mut conflict = self.begin(log, roots)?;
+        self.state.heaviest = NONE;
+        let mut conflict = self.begin_below(log, roots, first)?;
         if conflict.is_none() {
             conflict = self.add(log, &[first])?;
         }
         if conflict.is_none() {
             conflict = self.look_back(log)?;
         }
+        self.choose_hub();
         if conflict.is_none() {
-            self.keep(roots)?;
+            self.keep(roots);
             self.first = Some(first);
         }
         Ok(conflict)
+    }
+
+    /// What stands below the first assumption: the hub that it needs, or else what the roots give.
+    fn begin_below(
+        &mut self,
+        log: &Log,
+        roots: &[u32],
+        first: Lit,
+    ) -> Result<Option<u32>, AllocError> {
+        if let Some(need) = self.need_of(log, first)
+            && self.begin_at_hub(log, roots)?
+        {
+            self.explain_hub(need);
+            return Ok(None);
+        }
+        self.begin(log, roots)
+    }
+
+    /// What follows from the hub; answers whether that is no conflict and more than the roots give.
+    fn begin_at_hub(&mut self, log: &Log, roots: &[u32]) -> Result<bool, AllocError> {
+        if let Some(stage) = self.at_hub
+            && stage.roots == roots.len()
+        {
+            self.go_back(stage);
+            return Ok(true);
+        }
+        let Some(hub) = self.heaviest.hub else {
+            return Ok(false);
+        };
+        let mut conflict = self.begin(log, roots)?;
+        if self.state.trail.truth(hub) != Truth::Unset {
+            self.heaviest = NONE;
+            return Ok(false);
+        }
+        if conflict.is_none() {
+            conflict = self.add(log, &[hub])?;
+        }
+        if conflict.is_none() {
+            conflict = self.look_back(log)?;
+        }
+        if conflict.is_some() {
+            self.heaviest = NONE;
+            return Ok(false);
+        }
+        self.start = self.stage(roots);
+        self.at_hub = Some(self.start);
+        Ok(true)
+    }
+
+    /// Takes a clause for what gave the hub.
+    fn explain_hub(&mut self, reason: u32) {
+        if let Some(hub) = self.heaviest.hub {
+            self.state.trail.explain(hub.variable(), reason);
+        }
+    }
+
+    /// Takes what was heaviest to look at for the hub of later questions, unless the one that is there is heavier.
+    fn choose_hub(&mut self) {
+        let found = self.state.heaviest;
+        let is_heavier = self.at_hub.is_none() || found.cost > self.heaviest.cost;
+        if found.hub.is_some() && is_heavier {
+            self.heaviest = found;
+            self.at_hub = None;
+        }
     }
 
     /// The same where it is there, but for what new roots give.
@@ -149,7 +229,7 @@ impl Kept {
             self.first = None;
             return Ok(conflict);
         }
-        self.keep(roots)?;
+        self.keep(roots);
         Ok(None)
     }
 
@@ -166,10 +246,9 @@ impl Kept {
     }
 
     /// Keeps all that is true now.
-    fn keep(&mut self, roots: &[u32]) -> Result<(), AllocError> {
-        self.end = self.stage(roots)?;
+    fn keep(&mut self, roots: &[u32]) {
+        self.end = self.stage(roots);
         self.start = self.end;
-        Ok(())
     }
 
     /// Looks at the roots behind those that were looked at before the start; answers the number of one that is false.
@@ -197,30 +276,14 @@ impl Kept {
     /// Takes all back that came behind a stage.
     fn go_back(&mut self, stage: Stage) {
         self.state.undo_to(stage.mark);
-        self.trues.truncate(stage.trues);
         self.start = stage;
     }
 
     /// How far the state has come, where it has looked at these roots.
-    fn stage(&mut self, roots: &[u32]) -> Result<Stage, AllocError> {
-        self.list_trues()?;
-        Ok(Stage {
+    fn stage(&self, roots: &[u32]) -> Stage {
+        Stage {
             mark: self.state.mark(),
             roots: roots.len(),
-            trues: self.trues.len(),
-        })
-    }
-
-    /// Lists the variables that became true behind the start.
-    pub(crate) fn list_trues(&mut self) -> Result<(), AllocError> {
-        self.trues.truncate(self.start.trues);
-        for place in self.start.mark.literals..self.state.trail.len() {
-            if let Some(literal) = self.state.trail.literal(place)
-                && literal.positive()
-            {
-                self.trues.push(literal.variable())?;
-            }
         }
-        Ok(())
     }
 }

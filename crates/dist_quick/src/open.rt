@@ -1,6 +1,7 @@
 //! Clauses with open alternatives, and which of them a variable that becomes false concerns.
 
 use crate::clauses::{Look, clause_of};
+use crate::long::{has_alternative, is_long};
 use crate::trail::{Trail, Truth};
 use dist_clause::Lit;
 use dist_derive::Log;
@@ -12,6 +13,9 @@ struct OpenClause {
     number: u32,
     first: usize,
     second: usize,
+    /// How many variables were true when the clause came.
+    trues: usize,
+    is_long: bool,
 }
 
 /// That a variable is an alternative of an open clause.
@@ -57,14 +61,52 @@ impl Open {
         self.clauses.get(place).map(|clause| clause.number)
     }
 
-    /// Adds a clause as the last one.
-    pub(crate) fn push(&mut self, number: u32) -> Result<(), AllocError> {
+    /// Adds a clause as the last one, where none of its literals is true, unless the last one is equal.
+    pub(crate) fn push(&mut self, log: &Log, trail: &Trail, number: u32) -> Result<(), AllocError> {
+        let clause = clause_of(log, number);
+        if self.is_last(log, clause) {
+            return Ok(());
+        }
         self.clauses.push(OpenClause {
             number,
             first: 0,
             second: 1,
+            trues: trail.trues().len(),
+            is_long: is_long(clause),
         })?;
         Ok(())
+    }
+
+    /// Whether the last clause is equal to one.
+    fn is_last(&self, log: &Log, clause: &[Lit]) -> bool {
+        match self.clauses.last() {
+            Some(last) => clause_of(log, last.number) == clause,
+            None => false,
+        }
+    }
+
+    /// Whether the clause at a place is long, with its alternatives in order.
+    pub(crate) fn is_long(&self, place: usize) -> bool {
+        self.clauses.get(place).is_some_and(|clause| clause.is_long)
+    }
+
+    /// What the clause at a place asks for, if it is long and the variables that became true since it came tell.
+    pub(crate) fn ask_long(&self, log: &Log, trail: &Trail, place: usize) -> Option<Look> {
+        let kept = self.clauses.get(place).copied()?;
+        let clause = clause_of(log, kept.number);
+        let later = trail.trues().get(kept.trues..)?;
+        if !kept.is_long || later.len() > clause.len() / 8 {
+            return None;
+        }
+        for variable in later {
+            if has_alternative(clause, *variable) {
+                return Some(Look::Rests);
+            }
+        }
+        if is_false(clause, trail, kept.first) || is_false(clause, trail, kept.second) {
+            return None;
+        }
+        Some(Look::Open)
     }
 
     /// The place of the first clause that is not entered.

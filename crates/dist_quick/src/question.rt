@@ -51,9 +51,9 @@ impl Quick {
     /// The true variables of a guessed model.
     pub fn trues(&self) -> &[u32] {
         if self.at_other {
-            self.other.trues()
+            self.other.state.trail.trues()
         } else {
-            self.one.trues()
+            self.one.state.trail.trues()
         }
     }
 
@@ -66,7 +66,7 @@ impl Quick {
     /// lines.
     pub fn ask(&mut self, log: &Log, assumptions: &[Lit]) -> Result<Guess, AllocError> {
         self.sort(log)?;
-        self.at_other = self.is_at_other(assumptions);
+        self.at_other = self.is_at_other(log, assumptions);
         if self.at_other {
             self.descent
                 .guess(log, &mut self.other, &self.roots, assumptions)
@@ -88,11 +88,18 @@ impl Quick {
         Ok(())
     }
 
-    /// Where a question is asked: where its first assumption is kept, or else in place of the one with fewer consequences.
-    fn is_at_other(&self, assumptions: &[Lit]) -> bool {
+    /// Where a question is asked: where its first assumption is kept, or a hub that this needs, or else in place of the one with
+    /// fewer consequences.
+    fn is_at_other(&self, log: &Log, assumptions: &[Lit]) -> bool {
         if self.one.is_of(assumptions) {
             return false;
         }
-        self.other.is_of(assumptions) || self.other.len() < self.one.len()
+        if self.other.is_of(assumptions) {
+            return true;
+        }
+        if self.one.has_hub_of(log, assumptions) {
+            return false;
+        }
+        self.other.has_hub_of(log, assumptions) || self.other.len() < self.one.len()
     }
 }

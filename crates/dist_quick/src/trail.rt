@@ -32,6 +32,8 @@ const NOTHING: Known = Known {
 pub(crate) struct Trail {
     known: Vec<Known>,
     literals: Vec<Lit>,
+    /// The variables that are true, in the order in which they became so.
+    trues: Vec<u32>,
 }
 
 impl Trail {
@@ -40,12 +42,18 @@ impl Trail {
         Ok(Trail {
             known,
             literals: Vec::new(alloc),
+            trues: Vec::new(alloc),
         })
     }
 
     /// How many literals are true.
     pub(crate) fn len(&self) -> usize {
         self.literals.len()
+    }
+
+    /// The variables that are true, in the order in which they became so.
+    pub(crate) fn trues(&self) -> &[u32] {
+        &self.trues
     }
 
     /// The literal at a place, from 0.
@@ -90,7 +98,7 @@ impl Trail {
     /// Makes an unset literal true.
     pub(crate) fn set(&mut self, literal: Lit, reason: u32) -> Result<(), AllocError> {
         let place = u32::try_from(self.literals.len()).unwrap_or(u32::MAX);
-        self.literals.push(literal)?;
+        self.push(literal)?;
         let truth = if literal.positive() {
             Truth::True
         } else {
@@ -106,14 +114,39 @@ impl Trail {
         Ok(())
     }
 
+    /// Puts a literal behind the others.
+    fn push(&mut self, literal: Lit) -> Result<(), AllocError> {
+        self.trues.reserve(1)?;
+        self.literals.push(literal)?;
+        if literal.positive() {
+            self.trues.push(literal.variable())?;
+        }
+        Ok(())
+    }
+
+    /// Tells of another clause that it gave a variable its value.
+    pub(crate) fn explain(&mut self, variable: u32, reason: u32) {
+        if let Some(known) = self.known.get_mut(variable as usize) {
+            known.reason = reason;
+        }
+    }
+
     /// Leaves so many literals.
     pub(crate) fn undo_to(&mut self, len: usize) {
         for _ in len..self.literals.len() {
-            if let Some(literal) = self.literals.pop()
-                && let Some(known) = self.known.get_mut(literal.variable() as usize)
-            {
-                *known = NOTHING;
+            if let Some(literal) = self.literals.pop() {
+                self.forget(literal);
             }
+        }
+    }
+
+    /// Takes the value of the last literal's variable back.
+    fn forget(&mut self, literal: Lit) {
+        if literal.positive() {
+            let _ = self.trues.pop();
+        }
+        if let Some(known) = self.known.get_mut(literal.variable() as usize) {
+            *known = NOTHING;
         }
     }
 }
