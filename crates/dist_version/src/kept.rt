@@ -1,5 +1,6 @@
-//! The text of a version as it is kept. A number may begin with many zeros, which say nothing, and to pass over them at each comparison could cost
-//! more than the other version is long. So a text with many zeros in a row has beside it what it is compared by.
+//! The text of a version as it is kept. A number may begin with many zeros, which say nothing, and to pass over them at each
+//! comparison could cost more than the other version is long. So a text with many zeros in a row has beside it what it is
+//! compared by.
 ghost use Rattle.std.specs.Prelude.{◌≡◌, ◌<◌, IfOk, IsTrue, length};
 ghost use Rattle.std.specs.Char.{is_ascii_digit};
 ghost use Rattle.std.specs.List.{list_all};

@@ -1,8 +1,9 @@
 //! Debian versions: read, kept and compared by Debian Policy 5.6.12; and versions just above and below a given one.
 //!
 //! A version keeps its text and the places of its parts. Comparing costs the bytes of the shorter text, takes no memory, and
-//! passes what the texts begin with alike many bytes at a time. So that it does, a number with many leading zeros is kept without them too (`src/kept.rt`). The order is defined by weights of bytes (`specs/Order.antt`);
-//! a change of the order is a change there first.
+//! passes what the texts begin with alike many bytes at a time. So that it does, a number with many leading zeros is kept
+//! without them too (`kept.rt`). The order is defined by weights of bytes (`specs/Order.antt`); a change of the order is a
+//! change there first.
 #![tactic(auto)]
 
 ghost use Rattle.std.specs.Prelude.{◌≡◌, ◌↔◌, ℕ, List, [], None, IfOk, IsTrue, bytes_eq};

@@ -1,5 +1,5 @@
-//! The order of two parts of versions, by turns: a start without digits, and then a run of digits, which is never computed. Both parts are walked in
-//! step, so that a comparison ends with the shorter one.
+//! The order of two parts of versions, by turns: a start without digits, and then a run of digits, which is never computed.
+//! Both parts are walked in step, so that a comparison ends with the shorter one.
 ghost use Rattle.std.specs.Prelude.{◌≡◌, ◌+◌, ◌≤◌, IsTrue, false, length, map, take, drop, not, ◌==◌, min, nat_lt};
 ghost use Rattle.std.specs.Char.{is_ascii_digit};
 ghost use Rattle.std.specs.List.{list_all, prefix_len, suffix_len};
