@@ -163,7 +163,7 @@ def common_alternatives(n):
 def repaired_again(n):
     """The file of a repair of one of n loose packages, with its installation n times."""
     packages = "".join(stanza(f"b{k:06}") for k in range(n))
-    return ["check-repair", "packages", "list"], packages, f"distfuture-repair 1 10000 {n} {13 * n + 1} {22 * n - 17} 1 8\n" + "m 2\n" * n
+    return ["check-repair", "packages", "list"], packages, f"distfuture-repair 1 10000 {n} {5 * n + 1} {6 * n - 1} 1 0\n" + "m 2\n" * n
 
 
 def chained(n):
@@ -320,7 +320,7 @@ ROWS = {
     "the last of so many alternatives, installed as often": (20_000, lambda n: checked(*last_alternative(n))),
     "an explanation by the last of so many alternatives, installed as often": (20_000, explained_by_the_last),
     "so many items with two alternatives in common, installed by either as often": (20_000, lambda n: checked(*common_alternatives(n))),
-    "a repair of one of so many packages, installed as often": (20_000, repaired_again),
+    "a repair of one of so many packages, installed as often": (10_000, repaired_again),
     "one new line that reaches a chain of so many": (100_000, lambda n: checked(*chained(n))),
     "so many questions, each with a new line": (80_000, lambda n: checked(*new_again(n))),
     "so many uploads to one source of as many packages": (80_000, lambda n: followed(
