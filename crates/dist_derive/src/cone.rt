@@ -19,8 +19,8 @@ use crate::occurrences::{Occurrences, POSITIVE};
 use crate::variable_set::VariableSet;
 use dist_clause::Lit;
 
-/// So many members of a cone are taken before the lines are looked at.
-const FIRST_MEMBERS: usize = 8;
+/// So many members of a cone are taken before the lines are looked at. It is few, since one member may have many clauses.
+const FIRST_MEMBERS: usize = 1;
 
 impl Log {
     /// Makes a set the cone of assumptions over the input clauses. The set's own calls give its variables, each once.
