@@ -61,8 +61,8 @@ def classes(packages):
 
 
 # All packages are asked for what they need.
-def strong(packages):
-    return ["strong", "packages", "cert"], packages, ""
+def strong(packages, *options):
+    return ["strong", "packages", "cert", *options], packages, ""
 
 
 # The clauses of futures, which dist_bench makes.
@@ -220,6 +220,19 @@ def learned_again(n):
     return packages + stanza("zhard", more="Depends: " + ", ".join(asks) + "\n") + stanza("zok")
 
 
+def hub(n, fields, more=""):
+    """So many packages that need one, which has these fields, with other stanzas beside it."""
+    return stanza("c", more=fields) + "".join(stanza(f"p{k:06}", more="Depends: c\n") for k in range(n)) + more
+
+
+def loose(n, more=""):
+    return "".join(stanza(f"w{k:06}", more=more) for k in range(n))
+
+
+def one_of(n):
+    return "Depends: " + " | ".join(f"w{k:06}" for k in range(n)) + "\n"
+
+
 def many_entries(n):
     """A library with n / 4 entries and n / 20 bounds on another name, and n / 2 atoms on the library."""
     entries = ", ".join(f"e{k}" for k in range(n // 4))
@@ -330,6 +343,11 @@ ROWS = {
     "so many questions that reach one chain, each with a new line": (20_000, lambda n: checked(*reaching_a_chain(n))),
     "so many questions beside as many essential packages, each with a new line": (20_000, lambda n: checked(*reaching_a_chain(n, True))),
     "a line of one literal that two questions about so many pairs need": (10_000, lambda n: strong(learned_again(n))),
+    "so many packages that need one in conflict with as many": (10_000, lambda n: strong(hub(n, "Conflicts: v\n", loose(n, "Provides: v\n")))),
+    "so many packages that need one with one item of as many alternatives": (10_000, lambda n: strong(hub(n, one_of(n), loose(n)))),
+    "so many packages that need one with as many equal items": (10_000, lambda n: strong(hub(n, "Depends: " + ", ".join(["x"] * n) + "\n", stanza("x")))),
+    "so many packages beside an essential one with one item of as many alternatives": (10_000, lambda n: strong(
+        stanza("e", more="Essential: yes\n" + one_of(n)) + loose(n), "--essential")),
     "the classes of one entry told again and again": (8_000, lambda n: classes(
         stanza("libx", more="Provides: " + ", ".join(["a (= 1)"] * n) + "\n") + stanza("p", more="Conflicts: " + ", ".join(f"a (>= {k})" for k in range(n)) + "\n"))),
     "the clauses of futures of so many entries": (8_000, lambda n: futures(many_entries(n))),
@@ -517,6 +535,9 @@ def load_rows():
         yield from question_rows(told, size, make, words, power, power)
     # The file itself has the square of the number.
     yield "strong on so many that need one of as many broken ones", (1_000, lambda n: (["strong", "packages", "cert"], broken_choices(n), ""), 2)
+    # So many versions have the square of the number of conflicts.
+    yield "strong on so many versions of one essential package", (1_000, lambda n: (["strong", "packages", "cert", "--essential"], "".join(
+        stanza("a", k, "Essential: yes\n") for k in range(n)) + stanza("p"), ""), 2)
     yield "classes on one stanza too many", (200_001, lambda n: (["classes", "packages"], mixed(n), ""), None)
     yield "classes on one byte too many", (268_435_457, lambda n: (["classes", "packages"], of_bytes(n), ""), None)
     yield "check of one derived line too many", (16_000_001, lambda n: (["check", "packages", "list"], stanza("a", more="Depends: b\n"), header() + "d -1 0 1\n" * n), None)
