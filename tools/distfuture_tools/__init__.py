@@ -1,0 +1,1 @@
+"""What the tools of distfuture share: reports, versions, Packages files, and how the program is run."""

@@ -1,0 +1,55 @@
+"""How a tool starts and ends: its exit statuses, and what it says where it can't go on."""
+import argparse
+import os
+import sys
+from typing import Callable, NoReturn
+
+DONE = 0          # the tool did what it is for
+FOUND = 1         # it did, and what it looked for is there: a difference, something undecided
+USAGE = 2         # the words are no command (argparse ends with it)
+BAD_INPUT = 3     # a file is not what it must be
+REFUSED = 4       # a certificate is refused
+READ_FAULT = 5    # a file could not be read
+WRITE_FAULT = 6   # a file or the output could not be written
+NO_MEMORY = 7     # there was no memory
+PROGRAM = 20      # distfuture is not there, or ended with an error
+MISSING = 21      # a library of Debian is not installed
+
+
+class Fault(Exception):
+    """Why a tool can't go on."""
+
+    def __init__(self, message: str, status: int = BAD_INPUT) -> None:
+        super().__init__(message)
+        self.status = status
+
+
+def parser_of(name: str, description: str) -> argparse.ArgumentParser:
+    """A parser of the words of a tool; what stands behind the description is kept as it is written."""
+    return argparse.ArgumentParser(
+        prog=name, description=description, formatter_class=argparse.RawDescriptionHelpFormatter,
+        epilog="Exit statuses: 0 done; 1 something was found or is undecided, where the tool's page says so; 2 wrong words; "
+               "3 a bad file;\n4 a certificate is refused; 5 and 6 read and write faults; 7 no memory; 20 the program failed.")
+
+
+def start(main: Callable[[list[str]], int]) -> NoReturn:
+    """Runs a tool on the words of the command line, and ends with its status."""
+    name = os.path.basename(sys.argv[0])
+    try:
+        status = main(sys.argv[1:])
+        sys.stdout.flush()
+    except Fault as fault:
+        print(f"{name}: {fault}", file=sys.stderr)
+        status = fault.status
+    except BrokenPipeError:
+        os.dup2(os.open(os.devnull, os.O_WRONLY), sys.stdout.fileno())
+        status = WRITE_FAULT
+    except OSError as error:
+        print(f"{name}: {error}", file=sys.stderr)
+        status = WRITE_FAULT if error.filename is None else READ_FAULT
+    except MemoryError:
+        print(f"{name}: no memory", file=sys.stderr)
+        status = NO_MEMORY
+    except KeyboardInterrupt:
+        status = 130
+    sys.exit(status)

@@ -1,0 +1,42 @@
+"""What tests share: stored files, a tool's run, and what is missing on the machine."""
+import contextlib
+import importlib.util
+import io
+import os
+import unittest
+from typing import Callable
+
+DATA = os.path.join(os.path.dirname(__file__), "data")
+
+
+def require(*modules: str) -> None:
+    """Skips a file of tests where a library is not installed."""
+    missing = [module for module in modules if importlib.util.find_spec(module) is None]
+    if missing:
+        raise unittest.SkipTest(f"not installed: {' '.join(missing)} (tools/setup installs it)")
+
+
+def stored(name: str) -> str:
+    return os.path.join(DATA, name)
+
+
+def text_of(path: str) -> str:
+    with open(path, encoding="utf-8") as file:
+        return file.read()
+
+
+def run(main: Callable[[list[str]], int], *words: str) -> tuple[int, str]:
+    """A tool's status, and what it prints."""
+    out = io.StringIO()
+    with contextlib.redirect_stdout(out):
+        status = main(list(words))
+    return status, out.getvalue()
+
+
+def program_or_skip() -> str:
+    """The program, or the test is skipped."""
+    from distfuture_tools.program import find_program
+    program = find_program()
+    if program is None:
+        raise unittest.SkipTest("there is no built program: name it by DISTFUTURE")
+    return program
