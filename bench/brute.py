@@ -4,8 +4,8 @@
 Usage: brute.py PROGRAM [ARCHIVES [SEED [SECONDS]]]    it ends after so many archives or seconds
 
 Of `strong`, `outdated` and `challenged`, at several numbers of `--limit`: each listed claim is true, each one that is neither listed nor
-undecided is false, `check` prints the same, and second-check.py accepts the certificate with the same report. `classes`, `health` of random
-lists and `try` print what second-check.py's reading and the enumeration say. It prints how many runs of each command agreed; at the first
+undecided is false, `check` prints the same, and tools/recheck accepts the certificate with the same report. `classes`, `health` of random
+lists and `try` print what its reading and the enumeration say. It prints how many runs of each command agreed; at the first
 that does not it prints the files and ends with 1.
 """
 import collections
@@ -59,7 +59,7 @@ def sweep(runner, draw, data, truth, subjects, tried):
             runner.put("cert", cert)
             *mine, accepted = sc.check_read(packages, arch, cert, subjects)
             told += "\n" + cert.decode("latin-1")
-            expect(f"{told}\nsecond-check.py", tuple(mine), answer)
+            expect(f"{told}\nrecheck", tuple(mine), answer)
             expect(f"{told}\nuntrue claims", truth.untrue(accepted[0], accepted[2]), None)
             expect(f"{told}\nits first line", cert.split(b" ")[2:5], [kind.encode(), (b"plain", b"essential")[essential], b"%d" % (limit or 10000)])
             expect(f"{told}\ncheck", runner.run("check", "/packages", "/cert"), answer)
@@ -85,7 +85,7 @@ def plainly(truth, tried):
     newest = sc.newest(truth.packages)
     for essential in (False, True):
         later = truth.of("outdated", essential)
-        if len(newest) > 4 or len(later.named) > 3 or sum(len(p["provides"]) for p in newest) > 2:
+        if len(newest) > 4 or len(later.named) > 3 or sum(len(p.provides) for p in newest) > 2:
             return
         other = small.LaterOneByOne(newest, truth.arch, essential)
         at = lambda its: [its.breaks(c, place) for c, places in enumerate(its.places) for place in places]
@@ -128,8 +128,7 @@ def trial(runner, draw, tried):
     truth = small.Truth(packages, arch)
     present, later = truth.of("strong", False), truth.of("outdated", False)
     common = [present.always_with(p) for p in range(size)]
-    space = sc.Space(packages, arch, False)
-    triples = sum(later.breaks(c, later.places_of(c, cls)[0]).bit_count() for c, classes in enumerate(space.classes) for cls in classes)
+    triples = sum(later.breaks(c, later.places_of(c, cls)[0]).bit_count() for c, classes in enumerate(sc.classes_of(packages, arch)) for cls in classes)
     lines = [f"size {size}", f"strong {sum(mask.bit_count() - 1 for mask in common if mask is not None)}", f"uninstallable {common.count(None)}",
              f"outdated {size - later.ever.bit_count()}", f"challenged {triples}", "undecided 0", "accepted 3"]
     answer = runner.run("try", "--size", str(size), "--seed", str(seed))

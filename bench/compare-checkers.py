@@ -1,5 +1,5 @@
 #!/usr/bin/env python3
-"""Compares `PROGRAM check` with second-check.py on small random archives: on certificates of all kinds and both modes that the program writes,
+"""Compares `PROGRAM check` with tools/recheck on small random archives: on certificates of all kinds and both modes that the program writes,
 on others that are written here, and on edits of both in bytes, words and lines. What both accept is held against the definitions, by
 enumeration: each claim is true. What they refuse, they refuse at one line for one cause.
 
@@ -18,6 +18,28 @@ from small_archives import sc
 
 class GivesUp(Exception):
     pass
+
+
+def cone(assumptions, inputs):
+    inside, size = {abs(l) for l in assumptions}, -1
+    while size != len(inside):
+        size = len(inside)
+        for clause in inputs:
+            if all(-l in inside for l in clause if l < 0):
+                inside |= {abs(l) for l in clause}
+    return inside
+
+
+def is_new(clause, assumptions, clauses, inside):
+    if not clause or len({abs(l) for l in clause}) != len(clause) or not {abs(l) for l in clause} <= inside:
+        return False
+    _, is_refuted, true = propagate([*assumptions, *(-l for l in clause[1:])], clauses)
+    return not is_refuted and not any(-l in true for l in true) and clause[0] not in true and -clause[0] not in true
+
+
+def is_covered(space, c, k, installations):
+    """Whether one of some sets says nothing against a class of a cluster: it uses nothing of the cluster, or has it at that class."""
+    return any(space.at[c][k] in members or c not in space.used_clusters(frozenset(members)) for members in installations)
 
 
 def propagate(start, clauses):
@@ -42,10 +64,10 @@ class Writer:
 
     def __init__(self, draw, subject):
         self.draw, self.subject = draw, subject
-        self.clauses = list(subject.inputs)
+        self.clauses = list(subject.clauses)
         self.limit = draw.choice([1, 1, 1, 2, 3, 10000])
         self.lines = ["distfuture-certificate 1 %s %s %d %d %d %d" % (
-            subject.kind, "essential" if subject.essential else "plain", self.limit, len(subject.packages), subject.variables, len(subject.inputs))]
+            subject.kind, "essential" if subject.essential else "plain", self.limit, *subject.numbers)]
         self.found, self.group, self.steps = [], [], 0
 
     def search(self, literals):
@@ -57,7 +79,7 @@ class Writer:
             hints, is_refuted, true = propagate(literals, self.clauses)
             if is_refuted:
                 return None, hints
-            unmet = [clause for clause in self.subject.inputs if not any(l in true for l in clause)]
+            unmet = [clause for clause in self.subject.clauses if not any(l in true for l in clause)]
             if not unmet:
                 return {l for l in true if l > 0}, None
             free = [l for l in self.draw.choice(unmet) if -l not in true]
@@ -74,7 +96,7 @@ class Writer:
     def leave_open(self, literals):
         """Lines that leave a question undecided, where that many new ones are found."""
         draw, before, at = self.draw, len(self.clauses), len(self.lines)
-        inside = sorted(sc.cone(literals, self.subject.inputs))
+        inside = sorted(cone(literals, self.subject.clauses))
         for _ in range(60 * self.limit):
             if len(self.clauses) - before >= self.limit and draw.often(0.7):
                 break
@@ -86,7 +108,7 @@ class Writer:
                 if v not in [abs(l) for l in clause]:
                     clause.append(v * draw.choice([1, -1]))
             hints, is_refuted, _ = propagate([-l for l in clause], self.clauses)
-            if is_refuted and sc.is_new(clause, literals, self.clauses, set(inside)):
+            if is_refuted and is_new(clause, literals, self.clauses, set(inside)):
                 self.derive(clause, hints)
         if len(self.clauses) - before < self.limit:
             del self.clauses[before:], self.lines[at:]
@@ -146,7 +168,7 @@ class Writer:
         if len(named) > 2 and self.draw.often(0.5):
             named = self.draw.sample(named, 2)
         first, second = [], []
-        for q in range(1, len(self.subject.packages) + 1):
+        for q in range(1, self.subject.packages + 1):
             common = set.intersection(*self.its(named, p))
             if q != p and (q in common or self.draw.often(0.05)):
                 {"f": first, "u": second, "m": []}[self.ask(p, -q)].append(q)
@@ -160,11 +182,11 @@ class Writer:
             return
         named = self.having(v) if self.draw.often(0.7) else [n for n in self.having(v) if 1 in self.found[n - 1]]
         first, second = [], []
-        for c, members in enumerate(space.clusters):
-            for k in range(len(space.classes[c])):
-                if p not in members and (not space.is_covered(c, k, self.its(named, v)) or self.draw.often(0.05)):
-                    {"f": first, "u": second, "m": []}[self.ask(v, space.number["at", c, k])].append((c + 1, k + 1))
-        second = [(c, k) for c, k in second if not space.is_covered(c - 1, k - 1, self.its(named, v))]
+        for c, cluster in enumerate(space.classes.clusters):
+            for k, at in enumerate(space.at[c]):
+                if p not in cluster.members and (not is_covered(space, c, k, self.its(named, v)) or self.draw.often(0.05)):
+                    {"f": first, "u": second, "m": []}[self.ask(v, at)].append((c + 1, k + 1))
+        second = [(c, k) for c, k in second if not is_covered(space, c - 1, k - 1, self.its(named, v))]
         again = self.named_again(named, v)
         if not any(1 in members for members in self.its(again, v)):
             again += [n for n in self.having(v) if 1 in self.found[n - 1]][:1]
@@ -175,7 +197,7 @@ class Writer:
         self.lines[-1] = " ".join(f"{letter} {p} {self.lines[-1]}".split())
 
     def whole(self):
-        for p in range(1, len(self.subject.packages) + 1):
+        for p in range(1, self.subject.packages + 1):
             self.group = []
             if self.found and self.draw.often(0.05):
                 self.install(self.draw.choice(self.found))

@@ -1,10 +1,10 @@
 #!/usr/bin/env python3
-"""Compares how the program and second-check.py read Packages files: small random archives, edited in bytes, words, lines and fields.
+"""Compares how the program and tools/recheck read Packages files: small random archives, edited in bytes, words, lines and fields.
 
 Usage: compare-readers.py PROGRAM [FILES [SEED [SECONDS]]]    it ends after so many files or seconds
 
 Of a file with a fault both name one line and one kind, with field and place. Of any other the program prints the classes of later versions as
-second-check.py has them, judges a random list as that does (with the text of the item that isn't met), and makes as many clauses of a kind and a
+tools/recheck has them, judges a random list as that does (with the text of the item that isn't met), and makes as many clauses of a kind and a
 mode. It prints how many agreed, by the kind of the fault; at the first that does not it prints the file, as short as it can be made, and ends with 1.
 """
 import collections
@@ -137,9 +137,9 @@ def difference(runner, draw, data):
     try:
         packages, arch = sc.read_packages(data)
     except sc.End as end:
-        kind = end.err.strip().split(": ")[-1]
+        kind = end.text.split(": ")[-1]
         kind = (kind.split(" at ")[0] if " in " in kind else kind.split(" with ")[0])
-        return (None if answer == (end.status, end.out, end.err) else ("fault", answer, end.err)), kind
+        return (None if answer == sc.answer_of(end) else ("fault", answer, end.text)), kind
     wanted = (0, sc.classes_report(packages, arch), "")
     if answer != wanted:
         return ("classes", answer, wanted), ""
@@ -150,7 +150,7 @@ def difference(runner, draw, data):
         return ("health", members, answer, wanted), ""
     kind, essential = draw.choice(["strong", "outdated"]), draw.often(0.5)
     subject = sc.Subject(packages, arch, kind, essential)
-    numbers = len(subject.packages), subject.variables, len(subject.inputs)
+    numbers = subject.numbers
     runner.put("cert", b"distfuture-certificate 1 %s %s 1 %d %d %d\n" % (kind.encode(), b"essential" if essential else b"plain", *numbers))
     answer = runner.run("check", "/packages", "/cert")
     if answer != (4, "", "distfuture: certificate refused at line 2: Truncated\n"):

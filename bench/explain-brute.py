@@ -5,7 +5,8 @@ Usage: explain-brute.py PROGRAM [ARCHIVES [SEED]]
 
 Of each package of an archive, at several numbers of `--limit`: `installable` is true; the relations listed explain the package, over all sets of
 packages that have it; and each one that is not marked is needed. With a limit above 3 to the power of packages and relations, there is no mark.
-`check-explain` prints the same of the file, and what it prints of an edited file that it accepts is true. It prints how many answers of each form
+`check-explain` prints the same of the file, and what it prints of an edited file that it accepts is true. tools/recheck says the same of each edited
+file. It prints how many answers of each form
 agreed; at the first that does not it prints the files and ends with 1.
 """
 import collections
@@ -27,7 +28,7 @@ class Relations:
         self.lines, self.tests = [], []
         one = lambda met: sum(1 << k for k, q in enumerate(packages) if met(q))
         for k, p in enumerate(packages):
-            for item in p["items"]:
+            for item in p.items:
                 meets = one(lambda q: any(sc.matches(atom, q, arch) for atom in item))
                 if not meets >> k & 1:
                     self.lines.append(f"needs {small.label(p)}: {small.item_text(item)}")
@@ -35,7 +36,7 @@ class Relations:
         for k, p in enumerate(packages):
             for j in range(k + 1, self.count):
                 q = packages[j]
-                if p["name"] == q["name"] or sc.in_conflict(p, q, arch):
+                if p.name == q.name or sc.in_conflict(p, q, arch):
                     self.lines.append(f"apart {small.label(p)} {small.label(q)}")
                     self.tests.append(lambda s, both=1 << k | 1 << j: s & both == both)
         self.failed = [sum(1 << r for r, test in enumerate(self.tests) if test(s)) for s in range(1 << self.count)]
@@ -133,6 +134,9 @@ def one(runner, draw, tried):
             runner.put("cert", other)
             verdict = runner.run("check-explain", "/packages", "/cert")
             tried["edited files"] += 1
+            mine = sc.check_read(packages, arch, other, kinds=("explain",))[:3]
+            if mine != verdict:
+                raise Differs(f"{told}\n---- edited\n{other.decode('latin-1')}\n{verdict}\nrecheck: {mine}")
             if verdict[0] in (0, 1):
                 lines = verdict[1].splitlines()
                 named = next((j for j, q in enumerate(packages) if lines[0] == f"package {small.label(q)}"), None)

@@ -31,11 +31,11 @@ def entry_text(entry, version=None):
 def stanza(draw, member, version, faulty):
     """A package that comes of a member at a version, or one with a fault."""
     text = draw.choice([b"9", b"1"]) if faulty == "version" else version if draw.often(0.8) or b":" in version else b"0:" + version
-    kept = [entry for entry in member["provides"] if draw.often(0.7)]
+    kept = [entry for entry in member.provides if draw.often(0.7)]
     moved = [entry_text(entry, version if sc.has_own_version(entry, member) and faulty != "entry" else None) for entry in kept]
     if faulty == "provides":
         moved.append(draw.choice([b"m", b"a", b"b (= 1)"]))
-    name = draw.choice([b"a", b"b", b"zz"]) if faulty == "name" else member["name"]
+    name = draw.choice([b"a", b"b", b"zz"]) if faulty == "name" else member.name
     lines = [b"Package: " + name, b"Version: " + text]
     if moved:
         lines.append(b"Provides: " + b", ".join(moved))
@@ -49,11 +49,11 @@ def stanza(draw, member, version, faulty):
 def upload(draw, packages, clusters):
     """The name and the version of a step line, and its block."""
     members = [packages[k - 1] for k in draw.choice(clusters)]
-    top = sc.top_of([p["text"] for p in members])
+    top = sc.top_of([p.text for p in members])
     version = draw.choice([b"2", b"3", b"4", top] + 2 * [sc.after(top, 1), sc.after(top, 9), b"1:0", b"1:1", b"2:0"])
     faulty = draw.choice(["name", "version", "provides", "entry", "architecture"]) if draw.often(0.12) else None
     block = b"\n".join(stanza(draw, p, version, faulty if k == 0 else None) for k, p in enumerate(p for p in members if draw.often(0.8)))
-    return draw.choice(members)["name"] if draw.often(0.95) else b"nobody", version, block
+    return draw.choice(members).name if draw.often(0.95) else b"nobody", version, block
 
 
 # ---- the definition
@@ -64,20 +64,20 @@ def is_new_of(member, fresh):
         if (entry[0], entry[1]) != (other[0], other[1]):
             return False
         if sc.has_own_version(entry, member):
-            return other[2] is not None and sc.compare_versions(other[2][2], fresh["version"]) == 0
+            return other[2] is not None and sc.compare_versions(other[2][2], fresh.key) == 0
         return (entry[2] and entry[2][1]) == (other[2] and other[2][1])
 
-    places = iter(member["provides"])
-    return all(any(carried(entry, other) for entry in places) for other in fresh["provides"])
+    places = iter(member.provides)
+    return all(any(carried(entry, other) for entry in places) for other in fresh.provides)
 
 
 class Archive:
     def __init__(self, packages, arch, clusters):
         self.packages, self.arch, self.clusters = packages, arch, clusters
-        self.held = {p["name"]: p for p in packages}
+        self.held = {p.name: p for p in packages}
 
     def cluster_named(self, name):
-        return next((c for c, members in enumerate(self.clusters) if any(self.packages[k - 1]["name"] == name for k in members)), None)
+        return next((c for c, members in enumerate(self.clusters) if any(self.packages[k - 1].name == name for k in members)), None)
 
     def members(self, c):
         return [self.packages[k - 1] for k in self.clusters[c]]
@@ -91,26 +91,26 @@ class Archive:
         if arch is not None and arch != self.arch:
             return "OtherArchitecture"
         above = lambda text: sc.compare_versions(sc.read_version(version)[0], sc.read_version(text)[0]) > 0
-        own = {p["name"]: p for p in self.members(c)}
-        if not all(above(p["text"]) for p in own.values()) or not all(above(p["text"]) for key, p in self.held.items() if key in own):
+        own = {p.name: p for p in self.members(c)}
+        if not all(above(p.text) for p in own.values()) or not all(above(p.text) for key, p in self.held.items() if key in own):
             return "NotAbove"
         for p in block:
-            if p["name"] not in own:
+            if p.name not in own:
                 return "NotMember"
-            if not sc.same_version(p["text"], version):
+            if not sc.same_version(p.text, version):
                 return "NotAtVersion"
-            if not is_new_of(own[p["name"]], p):
+            if not is_new_of(own[p.name], p):
                 return "WrongProvides"
-        self.held = {key: p for key, p in self.held.items() if key not in own} | {p["name"]: p for p in block}
+        self.held = {key: p for key, p in self.held.items() if key not in own} | {p.name: p for p in block}
         return None
 
     def moved(self, c):
         """The version to which a cluster has moved as a whole, in the text of its first member, or None."""
-        held = [self.held.get(p["name"]) for p in self.members(c)]
-        if None in held or not all(sc.same_version(p["text"], held[0]["text"]) for p in held):
+        held = [self.held.get(p.name) for p in self.members(c)]
+        if None in held or not all(sc.same_version(p.text, held[0].text) for p in held):
             return None
-        top = sc.top_of([p["text"] for p in self.members(c)])
-        return held[0]["text"] if sc.compare_versions(held[0]["version"], sc.read_version(top)[0]) > 0 else None
+        top = sc.top_of([p.text for p in self.members(c)])
+        return held[0].text if sc.compare_versions(held[0].key, sc.read_version(top)[0]) > 0 else None
 
 
 def place_of(later, text):
@@ -137,7 +137,7 @@ def expected(packages, arch, later, kind, uploads):
         if text is not None:
             broken = later.breaks(c, place_of(later, text))
             lines += [f"broken {small.label(p)} by {cluster_label(archive, c)} at {text.decode()}"
-                      for k, p in enumerate(packages) if broken >> k & 1 and archive.held.get(p["name"]) is p]
+                      for k, p in enumerate(packages) if broken >> k & 1 and archive.held.get(p.name) is p]
     return 0, "".join(line + "\n" for line in lines), ""
 
 

@@ -6,7 +6,8 @@ Usage: repair-brute.py PROGRAM [ARCHIVES [SEED]]
 Of each newest package of an archive, at several numbers of `--limit` and `--most`: how many clusters must move for it is what the futures say that
 move each set of clusters to each of the places among the versions that atoms name; so are the bounds, and that it is outdated; and the clusters that
 are told, moved to the versions that are told, are enough. `check-repair` prints the same of the file, and what it prints of an edited file that it
-accepts is true. It prints how many answers of each form agreed; at the first that does not it prints the files and ends with 1.
+accepts is true. tools/recheck says the same of each edited file. It prints how many answers of each form agreed; at the first that does not it
+prints the files and ends with 1.
 """
 import collections
 import importlib.util
@@ -138,6 +139,9 @@ def one(runner, draw, tried):
             runner.put("cert", other)
             verdict = runner.run("check-repair", "/packages", "/cert")
             tried["edited files"] += 1
+            mine = sc.check_read(packages, arch, other, kinds=("repair",))[:3]
+            if mine != verdict:
+                raise Differs(f"{told}\n---- edited\n{other.decode('latin-1')}\n{verdict}\nrecheck: {mine}")
             if verdict[0] in (0, 1):
                 lines = verdict[1].splitlines()
                 named = next((j for j, q in enumerate(newest) if lines[0] == f"package {small.label(q)}"), None)

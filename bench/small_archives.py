@@ -1,20 +1,17 @@
 """Small random archives of many shapes, what the definitions say of them by enumeration, and how a program is run on them.
 
 The definitions stand in docs/DEFINITIONS.md. No clause, variable or class is used here: installations are all subsets of the packages,
-futures are all choices of versions. Files are read by second-check.py, which shares no code with the program.
+futures are all choices of versions. Files are read as tools/recheck does, which shares no code with the program.
 """
-import importlib.util
 import itertools
 import os
 import random
 import shutil
-import sys
 import tempfile
 
+import second as sc
+
 HERE = os.path.dirname(os.path.abspath(__file__))
-spec = importlib.util.spec_from_file_location("second_check", os.path.join(HERE, "second-check.py"))
-sc = importlib.util.module_from_spec(spec)
-spec.loader.exec_module(sc)
 
 
 # ---- running a program
@@ -238,17 +235,17 @@ def item_text(item):
 
 
 def label(p):
-    return "%s=%s" % (p["name"].decode(), p["text"].decode())
+    return "%s=%s" % (p.name.decode(), p.text.decode())
 
 
 def health_of(packages, arch, members):
     """What `health` prints of some places of packages, and its status."""
     pairs = [(p, q) for p in members for q in members if p < q]
     for p, q in pairs:
-        if packages[p]["name"] == packages[q]["name"]:
+        if packages[p].name == packages[q].name:
             return "two versions %s %s\n" % (label(packages[p]), label(packages[q])), 9
     for p in members:
-        for item in packages[p]["items"]:
+        for item in packages[p].items:
             if not any(sc.matches(atom, packages[q], arch) for atom in item for q in members):
                 return "unmet %s: %s\n" % (label(packages[p]), item_text(item)), 9
     for p, q in pairs:
@@ -259,12 +256,12 @@ def health_of(packages, arch, members):
 
 def list_line(draw, p):
     """A line that names a package, with its version in some text."""
-    text = p["text"]
+    text = p.text
     if draw.often(0.2):
-        text = draw.choice([b"0:" + text if b":" not in text else text, text + b"-0" if not p["version"][2] and b"-" not in text else text, b"0" + text])
-        text = text if sc.read_version(text)[0] and sc.same_version(text, p["text"]) else p["text"]
+        text = draw.choice([b"0:" + text if b":" not in text else text, text + b"-0" if p.key[2] == (0,) and b"-" not in text else text, b"0" + text])
+        text = text if sc.read_version(text)[0] and sc.same_version(text, p.text) else p.text
     blank = lambda least: bytes(draw.choices(b" \t", k=least + draw.count(8, 1, 1)))
-    return blank(0) + p["name"] + blank(1) + text + blank(0)
+    return blank(0) + p.name + blank(1) + text + blank(0)
 
 
 BAD_LINES = [b"a", b"a 1 1", b"zz 1", b"a 1_0", b"a=1", b"a 1\r", b"\xff 1", b"a  ", b"a 99", b", 1", b"\x0c", b"a 1\x0b"]
@@ -279,7 +276,7 @@ def health_answer(packages, arch, data):
         if not words:
             continue
         version = sc.read_version(words[1])[0] if len(words) == 2 and sc.is_name(words[0]) else None
-        named = [k for k, p in enumerate(packages) if version and p["name"] == words[0] and sc.compare_versions(p["version"], version) == 0]
+        named = [k for k, p in enumerate(packages) if version and p.name == words[0] and sc.compare_versions(p.key, version) == 0]
         if not named:
             return 10, "", f"distfuture: bad list at line {number}\n"
         members.add(named[0])
@@ -318,9 +315,9 @@ class Present:
     def __init__(self, packages, arch, essential):
         self.count = len(packages)
         one = lambda met: sum(1 << k for k, q in enumerate(packages) if met(q))
-        meets = [[one(lambda q, item=item: any(sc.matches(atom, q, arch) for atom in item)) for item in p["items"]] for p in packages]
-        excludes = [one(lambda q, p=p: q is not p and (q["name"] == p["name"] or sc.in_conflict(p, q, arch))) for p in packages]
-        needed = [one(lambda q, name=name: q["name"] == name) for name in {p["name"] for p in packages if p["essential"]}] if essential else []
+        meets = [[one(lambda q, item=item: any(sc.matches(atom, q, arch) for atom in item)) for item in p.items] for p in packages]
+        excludes = [one(lambda q, p=p: q is not p and (q.name == p.name or sc.in_conflict(p, q, arch))) for p in packages]
+        needed = [one(lambda q, name=name: q.name == name) for name in {p.name for p in packages if p.essential}] if essential else []
         self.healthy = [s for s in apart(excludes) if all(s & mask for mask in needed) and all(s & mask for k in bits(s) for mask in meets[k])]
 
     def having(self, package):
@@ -354,9 +351,9 @@ class Later:
             if atom[2]:
                 self.place_of[atom[2][1]] = 2 * next(k for k, text in enumerate(self.named) if sc.same_version(text, atom[2][1])) + 1
         self.clusters = sc.clusters_of(packages)
-        self.places = [self.places_above(sc.top_of([packages[k - 1]["text"] for k in members])) for members in self.clusters]
-        self.needed = sorted({p["name"] for p in packages if p["essential"]}) if essential else []
-        self.items = [(k, item) for k, p in enumerate(packages) for item in p["items"]]
+        self.places = [self.places_above(sc.top_of([packages[k - 1].text for k in members])) for members in self.clusters]
+        self.needed = sorted({p.name for p in packages if p.essential}) if essential else []
+        self.items = [(k, item) for k, p in enumerate(packages) for item in p.items]
         self.today, self.ever, self.beside = 0, 0, {}
         self.walk()
 
@@ -383,7 +380,7 @@ class Later:
 
     def offer(self, name, version, is_name):
         """What installing a name at a version, or keeping an entry of it, does: the packages that conflict with it, and the needs that it meets."""
-        hits = sum(1 << k for k, p in enumerate(self.packages) if any(self.is_matched(atom, name, version) for atom in p["conflicts"]))
+        hits = sum(1 << k for k, p in enumerate(self.packages) if any(self.is_matched(atom, name, version) for atom in p.conflicts))
         meets = sum(1 << j for j, (_, item) in enumerate(self.items) if any(self.is_matched(atom, name, version) for atom in item))
         if is_name and name in self.needed:
             meets |= 1 << len(self.items) + self.needed.index(name)
@@ -392,8 +389,8 @@ class Later:
     def offers_of(self, member, place):
         """Of a new version: the offer of its name, and those of its entries."""
         p = self.packages[member - 1]
-        entries = [(entry[0], place if sc.has_own_version(entry, p) else entry[2]) for entry in p["provides"] if sc.is_usable(entry[1], self.arch)]
-        return self.offer(p["name"], place, True), [self.offer(name, version, False) for name, version in entries]
+        entries = [(entry[0], place if sc.has_own_version(entry, p) else entry[2]) for entry in p.provides if sc.is_usable(entry[1], self.arch)]
+        return self.offer(p.name, place, True), [self.offer(name, version, False) for name, version in entries]
 
     def walk(self):
         fresh = [[self.offer(name, place, False) for place in range(2 * len(self.named) + 1)] for name in sc.new_names(self.packages, self.arch)]
@@ -402,7 +399,7 @@ class Later:
         one = lambda met: sum(1 << k for k, q in enumerate(self.packages) if met(q))
         excludes = [one(lambda q, p=p: q is not p and sc.in_conflict(p, q, self.arch)) for p in self.packages]
         met_by = [one(lambda q, item=item: any(sc.matches(atom, q, self.arch) for atom in item)) for _, item in self.items]
-        named_by = [one(lambda q, name=name: q["name"] == name) for name in self.needed]
+        named_by = [one(lambda q, name=name: q.name == name) for name in self.needed]
         for s in apart(excludes):
             need = sum(1 << j for j, (k, _) in enumerate(self.items) if s >> k & 1 and not met_by[j] & s)
             need |= sum(1 << len(self.items) + j for j, mask in enumerate(named_by) if not mask & s)
@@ -451,7 +448,7 @@ class Later:
 
     def places_of(self, c, cls):
         """The places of the versions of a class of a cluster."""
-        top = sc.top_of([self.packages[k - 1]["text"] for k in self.clusters[c]])
+        top = sc.top_of([self.packages[k - 1].text for k in self.clusters[c]])
         side = lambda text: -1 if sc.same_version(text, top) else self.place_of[text]
         return [place for place in self.places[c] if {
             "point": lambda: place == side(cls[1]),
@@ -503,7 +500,7 @@ class Truth:
         return self.known[key]
 
     def untrue(self, subject, claims):
-        """The first package (from 1) of which a claim is untrue, with what is, or None. claims: as second-check.py has them."""
+        """The first package (from 1) of which a claim is untrue, with what is, or None. claims: as tools/recheck has them."""
         truth = self.of(subject.kind, subject.essential)
         for p, (letter, first, second) in enumerate(claims, 1):
             said = letter != "y" and getattr(self, "in_" + subject.kind)(truth, subject, p, letter, first, second)
@@ -531,11 +528,11 @@ class Truth:
     def in_challenged(truth, subject, p, letter, first, second):
         if (letter == "c") != bool(truth.today >> p - 1 & 1):
             return "it is installable" if letter == "x" else "it is not installable"
-        for c, classes in enumerate(subject.space.classes):
-            for k, cls in enumerate(classes):
+        for c, cluster in enumerate(subject.space.classes.clusters):
+            for k, cls in enumerate(cluster.classes):
                 pair, places = (c + 1, k + 1), truth.places_of(c, cls)
                 assert places, "a class without a version"
                 broken = {bool(truth.breaks(c, place) >> p - 1 & 1) for place in places}
-                if letter == "c" and p not in subject.space.clusters[c] and pair not in second and broken != {pair in first}:
+                if letter == "c" and p not in cluster.members and pair not in second and broken != {pair in first}:
                     return f"challenged at cluster {c + 1} and class {k + 1}: {broken}"
         return None
