@@ -59,6 +59,10 @@ class StoredFiles(unittest.TestCase):
                     wanted = text_of(stored(f"today.{name}.{printed}"))
                     self.assertEqual(run(recheck.main, stored("today.txt"), stored(f"today.{name}.{kind}")), (0, wanted))
 
+    def test_derived_lines_and_what_is_undecided(self):
+        for name, status in (("hard.strong", 0), ("hard.limit", 1), ("hard.outdated", 0)):
+            self.assertEqual(run(recheck.main, stored("hard.txt"), stored(name + ".cert"), "--report"), (status, text_of(stored(name))))
+
     def test_tells_in_short_what_is_claimed(self):
         _, text = run(recheck.main, stored("today.txt"), stored("today.challenged.cert"))
         self.assertEqual(text.splitlines()[:5], ["accepted: challenged, mode plain, limit 10000", "packages: 12", "uninstallable: 5", "challenges: 5",
@@ -146,10 +150,10 @@ class Proofs(unittest.TestCase):
         """Of each stored file its formula and its proof, by their paths."""
         names = [f"today.{kind}{mode}.cert" for kind in KINDS for mode in ("", "-essential")]
         names += [f"today.{name}.{kind}" for name in NAMES for kind in ("explain", "repair")]
-        for name in names:
+        for name in names + ["hard.strong.cert", "hard.outdated.cert"]:
             with tempfile.TemporaryDirectory() as folder, self.subTest(name):
                 paths = os.path.join(folder, "cnf"), os.path.join(folder, "lrat")
-                run(recheck.main, stored("today.txt"), stored(name), "--dimacs", paths[0], "--lrat", paths[1])
+                run(recheck.main, stored(name.split(".")[0] + ".txt"), stored(name), "--dimacs", paths[0], "--lrat", paths[1])
                 yield name, paths
 
     def test_a_small_reader_accepts_them(self):

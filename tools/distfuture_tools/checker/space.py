@@ -163,8 +163,8 @@ class Space:
         self.clauses.append(literals)
 
     def make_future_clauses(self) -> None:
-        one_class, as_it_is = Law("a cluster is at one class at most"), Law("a package is as it is, or its cluster moves")
-        moved, kept = Law("a new version stands where its cluster moves to it"), Law("an entry is kept by a new version")
+        one_class, as_it_is = Law("a source is at one class at most"), Law("a package is as it is, or its source moves")
+        moved, kept = Law("a new version comes where its source moves to it"), Law("what a new version provides comes with it")
         for cluster in self.at:
             self.exclude(one_class, cluster)
         # group 2 stands cluster by cluster behind all of group 1
