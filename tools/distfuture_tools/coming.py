@@ -1,4 +1,5 @@
 """Which of the uploads that a later Packages file brings break something, by the reports of `challenged` and `classes`."""
+import argparse
 import contextlib
 import os
 import tempfile
@@ -133,9 +134,14 @@ def prove(proof: Proof, found: list[Breaking], today: dict[str, Package], later:
     return FOUND if missing else DONE
 
 
-def parser():
-    result = parser_of("coming", "Lists the uploads of LATER that break packages of PACKAGES: those that break the most packages that stay as they\n"
-                                 "are come first. LATER is any later Packages file of the archive, compressed or not: security updates, the next release.")
+DESCRIPTION = """\
+Lists the uploads of LATER that break packages of PACKAGES: those that break the most packages that stay as they
+are come first. LATER is any later Packages file of the archive, compressed or not: security updates, the next
+release."""
+
+
+def parser() -> argparse.ArgumentParser:
+    result = parser_of("coming", DESCRIPTION)
     result.add_argument("packages", metavar="PACKAGES")
     result.add_argument("later", metavar="LATER")
     result.add_argument("--challenged", metavar="REPORT", help="the report of `distfuture challenged PACKAGES CERT`; else the program makes it")

@@ -1,8 +1,9 @@
 """How a tool starts and ends: its exit statuses, and what it says where it can't go on."""
 import argparse
+import importlib
 import os
 import sys
-from typing import Callable, NoReturn
+from typing import NoReturn
 
 DONE = 0          # the tool did what it is for
 FOUND = 1         # it did, and what it looked for is there: a difference, something undecided
@@ -32,12 +33,15 @@ def parser_of(name: str, description: str) -> argparse.ArgumentParser:
                "3 a bad file;\n4 a certificate is refused; 5 and 6 read and write faults; 7 no memory; 20 the program failed.")
 
 
-def start(main: Callable[[list[str]], int]) -> NoReturn:
-    """Runs a tool on the words of the command line, and ends with its status."""
+def start(module: str) -> NoReturn:
+    """Runs the tool of a module of this package on the words of the command line, and ends with its status."""
     name = os.path.basename(sys.argv[0])
     try:
-        status = main(sys.argv[1:])
+        status = importlib.import_module(f".{module}", __package__).main(sys.argv[1:])
         sys.stdout.flush()
+    except ModuleNotFoundError as error:
+        print(f"{name}: {error.name} is not installed: tools/setup installs it", file=sys.stderr)
+        status = MISSING
     except Fault as fault:
         print(f"{name}: {fault}", file=sys.stderr)
         status = fault.status

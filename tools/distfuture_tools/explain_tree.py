@@ -1,4 +1,5 @@
 """An explanation as a tree: what a broken package needs, what could serve it, and why that doesn't help."""
+import argparse
 import contextlib
 import sys
 import tempfile
@@ -37,9 +38,13 @@ def tree_lines(explanation: Explanation, tree: Node) -> Iterator[str]:
     return text_lines(tree)
 
 
-def parser():
-    result = parser_of("explain-tree", "Prints why a package can't be installed as a tree: what it needs, what could serve that, and where each branch ends.\n"
-                                       "ANSWER is what `distfuture explain` printed (- is standard input); with --package the program makes it.")
+DESCRIPTION = """\
+Prints why a package can't be installed as a tree: what it needs, what could serve that, and where each branch
+ends. ANSWER is what `distfuture explain` printed (- is standard input); with --package the program makes it."""
+
+
+def parser() -> argparse.ArgumentParser:
+    result = parser_of("explain-tree", DESCRIPTION)
     result.add_argument("packages", metavar="PACKAGES")
     result.add_argument("answer", metavar="ANSWER", nargs="?")
     result.add_argument("--package", metavar="NAME=VERSION", help="let the program explain this package")

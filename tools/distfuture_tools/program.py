@@ -3,7 +3,6 @@ import argparse
 import os
 import shutil
 import subprocess
-import sys
 
 from .command import PROGRAM, Fault
 from .progress import Progress
@@ -37,6 +36,4 @@ def run(program: str, words: list[str], output: str, allowed: tuple[int, ...] = 
     if done.returncode not in allowed:
         told = done.stderr.decode("utf-8", "replace").strip()
         raise Fault(f"{told or 'distfuture failed'} (distfuture {' '.join(words)}, status {done.returncode})", PROGRAM)
-    if done.returncode == 1 and "1" not in words:
-        print("something is left undecided: see the report", file=sys.stderr) if sys.stderr.isatty() else None
     return done.returncode

@@ -1,4 +1,5 @@
 """An independent checker of certificates, explanations and repairs: it shares no code with the program, and follows its documents."""
+import argparse
 import contextlib
 import os
 import sys
@@ -13,10 +14,14 @@ from .command import DONE, FOUND, Fault, parser_of
 from .progress import Progress
 
 
-def parser():
-    result = parser_of("recheck", "Judges a file that the program wrote, or anybody else: a certificate of strong, outdated or challenged, an explanation\n"
-                                  "or a repair. Where it is accepted, prints what it claims in short, and with --report the lines that `distfuture check`,\n"
-                                  "`check-explain` and `check-repair` print. It shares no code with them.")
+DESCRIPTION = """\
+Judges a file that the program wrote, or anybody else: a certificate of strong, outdated or challenged, an
+explanation or a repair. Where it is accepted, prints what it claims in short, and with --report the lines that
+`distfuture check`, `check-explain` and `check-repair` print. It shares no code with them."""
+
+
+def parser() -> argparse.ArgumentParser:
+    result = parser_of("recheck", DESCRIPTION)
     result.add_argument("packages", metavar="PACKAGES", help="the uncompressed Packages file that the certificate is about")
     result.add_argument("cert", metavar="CERT")
     result.add_argument("--report", action="store_true", help="print the whole report")
@@ -64,7 +69,7 @@ def summary(accepted: Accepted) -> Iterator[str]:
         yield from accepted.report()
         return
     letters = Counter(claim.letter for claim in judge.claims)
-    first, second = (sum(len(part) for part in parts) for parts in zip(*((claim.first, claim.second) for claim in judge.claims))) if judge.claims else (0, 0)
+    first, second = sum(len(claim.first) for claim in judge.claims), sum(len(claim.second) for claim in judge.claims)
     yield f"accepted: {header.kind}, mode {'essential' if header.essential else 'plain'}, limit {header.limit}"
     yield f"packages: {judge.subject.packages}"
     if header.kind == "outdated":

@@ -1,4 +1,5 @@
 """The refutation behind a claim, in words: which relations make an upload challenge a package, a pair strong, a package outdated."""
+import argparse
 from typing import Iterator
 
 from .checker.space import At
@@ -10,10 +11,14 @@ from .refutation import Refutation, Words, package_named, read_group, read_heade
 from .reports import name_of
 
 
-def parser():
-    result = parser_of("why", "Prints the refutations behind the claim of a certificate on a package, in words, the shortest first: of strong, why it can't be\n"
-                              "installed without another package; of outdated, why no future can install it; of challenged, why an upload breaks it.\n"
-                              "OTHER names one other package, or a source or a package of it; without it all are listed.")
+DESCRIPTION = """\
+Prints the refutations behind the claim of a certificate on a package, in words, the shortest first: of strong,
+why it can't be installed without another package; of outdated, why no future can install it; of challenged, why
+an upload breaks it. OTHER names one other package, or a source or a package of it; without it all are listed."""
+
+
+def parser() -> argparse.ArgumentParser:
+    result = parser_of("why", DESCRIPTION)
     result.add_argument("packages", metavar="PACKAGES")
     result.add_argument("cert", metavar="CERT")
     result.add_argument("package", metavar="NAME[=VERSION]")

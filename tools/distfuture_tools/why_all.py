@@ -1,4 +1,5 @@
 """Every package of an archive that can't be installed, grouped by what that comes down to."""
+import argparse
 import os
 import tempfile
 from concurrent.futures import ThreadPoolExecutor
@@ -55,9 +56,13 @@ def listed(groups: list[Group]) -> Iterator[str]:
             yield from (f"        {package}" for package in packages)
 
 
-def parser():
-    result = parser_of("why-all", "Lists every package of PACKAGES that can't be installed, grouped by what that comes down to: a name that is not there\n"
-                                  "at a version that is asked for, or a package that excludes another one. The program explains each package.")
+DESCRIPTION = """\
+Lists every package of PACKAGES that can't be installed, grouped by what that comes down to: a name that is not
+there at a version that is asked for, or a package that excludes another one. The program explains each package."""
+
+
+def parser() -> argparse.ArgumentParser:
+    result = parser_of("why-all", DESCRIPTION)
     result.add_argument("packages", metavar="PACKAGES")
     result.add_argument("--report", metavar="REPORT", help="a report of `strong` or `challenged` on PACKAGES; else the program makes one of `challenged`")
     result.add_argument("--jobs", metavar="N", type=int, default=1, help="how many packages are explained side by side (default 1)")

@@ -2,7 +2,9 @@
 import contextlib
 import importlib.util
 import io
+import lzma
 import os
+import tempfile
 import unittest
 from typing import Callable
 
@@ -40,3 +42,20 @@ def program_or_skip() -> str:
     if program is None:
         raise unittest.SkipTest("there is no built program: name it by DISTFUTURE")
     return program
+
+
+class Files(unittest.TestCase):
+    """A test with a folder of its own; what tools say on standard error is kept."""
+
+    def setUp(self):
+        self.folder = self.enterContext(tempfile.TemporaryDirectory())
+        self.errors = self.enterContext(contextlib.redirect_stderr(io.StringIO()))
+
+    def file(self, name: str, text: str) -> str:
+        path = os.path.join(self.folder, name)
+        with (lzma.open if name.endswith(".xz") else open)(path, "wt", encoding="utf-8") as file:
+            file.write(text)
+        return path
+
+    def path(self, name: str) -> str:
+        return os.path.join(self.folder, name)

@@ -19,8 +19,11 @@ def follows(false: set[int], hints: Sequence[int], clauses: Sequence[Clause]) ->
 
 
 class Models:
-    """Finds whether a set of true variables makes some clauses true. A clause is looked at where the set has the variable of a negative literal of it,
-    the one that the fewest clauses have; so a test costs what the set touches."""
+    """Finds whether a set of true variables makes some clauses true.
+
+    A clause is looked at where the set has the variable of a negative literal of it, the one that the fewest clauses have. So a test costs what the set
+    touches.
+    """
 
     def __init__(self, clauses: Iterable[Clause], variables: int) -> None:
         clauses = list(clauses)

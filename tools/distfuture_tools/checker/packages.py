@@ -6,7 +6,7 @@ from .relation import WHITE, Atom, Item, RelationFault, RelationReader, is_name
 from .version import Key, fault_of, key_of
 
 BYTE_LIMIT, STANZA_LIMIT = 268435456, 200000
-WANTED = frozenset((b"package", b"version", b"architecture", b"source", b"pre-depends", b"depends", b"conflicts", b"breaks", b"provides", b"essential"))
+WANTED = frozenset(b"package version architecture source pre-depends depends conflicts breaks provides essential".split())
 
 Fields = dict[bytes, tuple[bytes, int]]    # by their names in lower case: the value, and the line
 
