@@ -6,7 +6,7 @@ import tempfile
 from dataclasses import dataclass
 from typing import Iterator
 
-from .archive import Package, newest, packages_of
+from .archive import Package, guard_architectures, newest, packages_of
 from .command import DONE, FOUND, Fault, parser_of
 from .program import add_program_option, program_or_fault, run
 from .progress import counted
@@ -113,10 +113,13 @@ class Proof:
             self.lines += [line.rstrip("\n") for line in file if line.startswith("broken ")]
 
     def missing(self, found: list[Breaking]) -> list[str]:
-        """The lines that are not proved."""
-        proved = set(self.lines)
-        wanted = (f"broken {label} by {it.upload.cluster.label} at {it.upload.version}" for it in found for label in it.broken)
-        return [line for line in wanted if line not in proved]
+        """The lines that are not proved. Equal versions may differ in their texts."""
+        proved: dict[str, list[str]] = {}
+        for line in self.lines:
+            front, _, version = line.rpartition(" at ")
+            proved.setdefault(front, []).append(version)
+        wanted = [(f"broken {label} by {it.upload.cluster.label}", it.upload.version) for it in found for label in it.broken]
+        return [f"{front} at {version}" for front, version in wanted if not any(compare(it, version) == 0 for it in proved.get(front, ()))]
 
 
 def prove(proof: Proof, found: list[Breaking], today: dict[str, Package], later: dict[str, Package]) -> int:
@@ -168,7 +171,8 @@ def main(words: list[str]) -> int:
         classes = asked.classes or f"{folder}/classes"
         if not asked.classes:
             run(program_or_fault(asked.program), ["classes", asked.packages], classes)
-        later = newest(packages_of(asked.later))
+        today, later = newest(packages_of(asked.packages)), newest(packages_of(asked.later))
+        guard_architectures(today, later)
         uploads = list(uploads_of(read_clusters(classes), later))
         found = breaking_uploads(uploads, read_breaks(challenged), later)
         print(f"{len(found)} of {len(uploads)} uploads break something")
@@ -177,4 +181,4 @@ def main(words: list[str]) -> int:
         if not asked.proof or not found:
             return DONE
         proof = Proof(program_or_fault(asked.program), asked.packages, cert, folder)
-        return prove(proof, found, newest(packages_of(asked.packages)), later)
+        return prove(proof, found, today, later)

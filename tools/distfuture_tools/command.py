@@ -1,5 +1,6 @@
 """How a tool starts and ends: its exit statuses, and what it says where it can't go on."""
 import argparse
+import gc
 import importlib
 import os
 import sys
@@ -34,7 +35,11 @@ def parser_of(name: str, description: str) -> argparse.ArgumentParser:
 
 
 def start(module: str) -> NoReturn:
-    """Runs the tool of a module of this package on the words of the command line, and ends with its status."""
+    """Runs the tool of a module of this package on the words of the command line, and ends with its status.
+
+    The tools keep millions of small objects, hardly any of them in cycles. The collector would look at all of them again and again.
+    """
+    gc.disable()
     name = os.path.basename(sys.argv[0])
     try:
         status = importlib.import_module(f".{module}", __package__).main(sys.argv[1:])

@@ -48,6 +48,13 @@ class Listing(unittest.TestCase):
         with self.assertRaisesRegex(Fault, "this is no report"):
             coming.read_breaks(stored("today.txt"))
 
+    def test_refuses_another_architecture(self):
+        with tempfile.NamedTemporaryFile("w", encoding="utf-8") as other:
+            other.write(text_of(stored("later.txt")).replace("amd64", "i386"))
+            other.flush()
+            with self.assertRaisesRegex(Fault, "one file is for amd64, the other for i386"):
+                run(coming.main, stored("today.txt"), other.name, *REPORTS)
+
     def test_a_proof_needs_the_certificate(self):
         with self.assertRaisesRegex(Fault, "--cert"):
             run(coming.main, stored("today.txt"), stored("later.txt"), *REPORTS, "--proof")

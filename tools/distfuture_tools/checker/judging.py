@@ -39,6 +39,16 @@ class Judge:
         self.steps = {"q": self.take_question, "d": self.take_derived, "f": self.take_refutation, "m": self.take_model,
                       "u": self.take_undecided, "e": self.take_end}
 
+    def follows(self, false: set[int], hints: list[int]) -> bool:
+        try:
+            return follows(false, hints, self.clauses)
+        except IndexError:
+            return False
+
+    def fault_of_hints(self, hints: list[int]) -> str:
+        """What is wrong with hints by which nothing follows."""
+        return "UnknownLine" if max(hints, default=0) > len(self.clauses) else "BadLine"
+
     def take_question(self, literals: list[int]) -> str | None:
         if max(literals) > self.variables or min(literals) < -self.variables:
             return "OutOfRange"
@@ -50,10 +60,8 @@ class Judge:
         literals, hints = numbers[:end], numbers[end + 1:]
         if any(abs(literal) > self.variables for literal in literals):
             return "OutOfRange"
-        if hints and max(hints) > len(self.clauses):
-            return "UnknownLine"
-        if not follows(set(literals), hints, self.clauses):
-            return "BadLine"
+        if not self.follows(set(literals), hints):
+            return self.fault_of_hints(hints)
         self.clauses.append(tuple(literals))
         if self.proof:
             self.proof.derived(self.clauses[-1], hints)
@@ -62,10 +70,8 @@ class Judge:
     def take_refutation(self, hints: list[int]) -> str | None:
         if self.question is None:
             return "OutOfOrder"
-        if hints and max(hints) > len(self.clauses):
-            return "UnknownLine"
-        if not follows({-literal for literal in self.question}, hints, self.clauses):
-            return "BadLine"
+        if not self.follows({-literal for literal in self.question}, hints):
+            return self.fault_of_hints(hints)
         if self.proof:
             self.proof.refuted(self.question, hints)
         self.close(self.question, True)
