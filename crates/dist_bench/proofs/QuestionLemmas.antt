@@ -61,8 +61,8 @@ pub none-last : (r : PackageList) (log : ClauseLog) → IsLogOf r false log → 
 none-last r log of none = (inputs_of log, of.are, inr (inl (refl, λ has. omega (arith, has.0, none))))
 
 -- the counts in words, of the same numbers
-pub counts-told : (counts : QuestionCounts) (lines models refutations undecided derived : ℕ) → models ≡ counts.models
-    → refutations ≡ counts.refutations → undecided ≡ counts.undecided → derived ≡ lines
-    → ((counted models (codes " models, ") ++ counted refutations (codes " refutations, ")) ++ counted undecided (codes " undecided, "))
-    ++ counted derived (codes " derived lines\n") ≡ asked_text counts lines
-counts-told counts lines models refutations undecided derived a b c d = cc
+pub counts-told : (counts : QuestionCounts) (lines failed models refutations undecided derived thrown : ℕ) → models ≡ counts.models
+    → refutations ≡ counts.refutations → undecided ≡ counts.undecided → derived ≡ lines → thrown ≡ failed
+    → (((counted models (codes " models, ") ++ counted refutations (codes " refutations, ")) ++ counted undecided (codes " undecided, "))
+    ++ counted derived (codes " derived lines, ")) ++ counted thrown (codes " failed guesses\n") ≡ asked_text counts lines failed
+counts-told counts lines failed models refutations undecided derived thrown a b c d e = cc

@@ -30,17 +30,19 @@ IsRight log assumptions Undecided = Unit {0}
 abbrev pub total : QuestionCounts → ℕ
 total counts = (counts.models + counts.refutations) + counts.undecided
 
-abbrev pub asked_text : QuestionCounts → ℕ → List ℕ
-asked_text counts lines = ((counted counts.models (codes " models, ")
+abbrev pub asked_text : QuestionCounts → ℕ → ℕ → List ℕ
+asked_text counts lines failed = (((counted counts.models (codes " models, ")
     ++ counted counts.refutations (codes " refutations, "))
-    ++ counted counts.undecided (codes " undecided, ")) ++ counted lines (codes " derived lines\n")
+    ++ counted counts.undecided (codes " undecided, ")) ++ counted lines (codes " derived lines, "))
+    ++ counted failed (codes " failed guesses\n")
 
--- at least so many packages were asked for
+-- at least so many packages were asked for; how many guesses at the answers failed their tests is told, and no promise
 pub record IsAskedOf (packages : ℕ) (answer : List ℕ) : Type 0 where
   pub counts : QuestionCounts
   pub lines : ℕ
+  pub failed : ℕ
   pub each : packages ≤ total counts
-  pub is : answer ≡ asked_text counts lines
+  pub is : answer ≡ asked_text counts lines failed
 
 -- each package of the repository was
 abbrev pub IsAskedText : PackageList → (answer : List ℕ) → Type 0

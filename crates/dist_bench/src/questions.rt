@@ -132,22 +132,29 @@ fn line_count(solver: &Solver) -> u32 {
 }
 
 /// The counts in words.
-fn text_of(alloc: Global, counts: QuestionCounts, lines: u32) -> Result<Vec<u8>, AllocError>
-    ensures { IfOk result (λ text. text.items ≡ asked_text counts lines) }
+fn text_of(
+    alloc: Global,
+    counts: QuestionCounts,
+    lines: u32,
+    failed: u64,
+) -> Result<Vec<u8>, AllocError>
+    ensures { IfOk result (λ text. text.items ≡ asked_text counts lines failed) }
 {
     let mut text = counted(alloc, u128::from(counts.models), b" models, ")?;
     add_counted(&mut text, u128::from(counts.refutations), b" refutations, ")?;
     add_counted(&mut text, u128::from(counts.undecided), b" undecided, ")?;
-    add_counted(&mut text, u128::from(lines), b" derived lines\n")?;
+    add_counted(&mut text, u128::from(lines), b" derived lines, ")?;
+    add_counted(&mut text, u128::from(failed), b" failed guesses\n")?;
     Ok(text)
 }
 
-/// How the questions for the packages of a repository were answered, and how many lines were derived for them.
+/// How the questions for the packages of a repository were answered, how many lines were derived for them, and how many
+/// guesses failed their tests.
 fn counts_of(alloc: Global, solver: &mut Solver) -> Result<Vec<u8>, AllocError>
     ensures { IfOk result (λ answer. IsAskedOf solver.old.log.variables answer.items) }
 {
     let counts = ask_all(solver)?;
-    text_of(alloc, counts, line_count(solver))
+    text_of(alloc, counts, line_count(solver), solver.failed_guesses())
 }
 
 /// The same, of the packages alone.
