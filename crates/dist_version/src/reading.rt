@@ -5,7 +5,8 @@ ghost use Rattle.std.specs.List.{list_all};
 ghost use Rattle.std.specs.Option.{option_map, option_map_or, option_or, option_copied};
 ghost use Rattle.std.specs.Str.Parse.{digits_value};
 ghost use Rattle.dist_base.specs.Ascii.{hyphen};
-ghost use Rattle.dist_version.specs.Spelling.{split_once, rsplit_once, is_upstream_byte, is_revision_byte, epoch_digits, after_epoch, epoch_of, upstream_of, revision_of};
+ghost use Rattle.dist_version.specs.Spelling.{split_once, rsplit_once, is_upstream_byte, is_revision_byte};
+ghost use Rattle.dist_version.specs.Spelling.{epoch_digits, after_epoch, epoch_of, upstream_of, revision_of};
 ghost use Rattle.dist_version.specs.Faults.{fault_of, epoch_fault, upstream_fault, revision_fault, bad_byte};
 ghost use Rattle.dist_version.specs.Kept.{Keeps};
 
