@@ -227,7 +227,7 @@ impl Denials {
     {
         let (_, number) = self.pairs[place];
         let clause = clauses.clause(number);
-        if let Some(found) = rows.true_place(number, place, trues) {
+        if let Some(found) = rows.true_place(number, clause.len(), place, trues) {
             return Some(rows.behind(place, found));
         }
         if trues.makes_clause_true(clause) {

@@ -294,14 +294,31 @@ impl Rows {
         })
     }
 
-    /// A place in the row of a clause, whose denial is at a place, at which a literal is true where exactly the members of a
-    /// set are. What the row shares with the one before it is taken to be false.
-    pub(crate) fn true_place(&self, number: u32, place: usize, trues: &VariableSet) -> Option<usize>
+    /// Whether a row says more than its clause: the next one shares an alternative with it, or the clause is long.
+    fn is_worth_a_look(&self, place: usize, literals: usize, trues: &VariableSet) -> bool {
+        match self.fronts.get(place.saturating_add(1)) {
+            Some(front) if *front > 1 => true,
+            _ => literals > trues.len().saturating_mul(STEPS),
+        }
+    }
+
+    /// A place in the row of a clause of so many literals, whose denial is at a place, at which a literal is true where exactly
+    /// the members of a set are. What the row shares with the one before it is taken to be false.
+    pub(crate) fn true_place(
+        &self,
+        number: u32,
+        literals: usize,
+        place: usize,
+        trues: &VariableSet,
+    ) -> Option<usize>
         requires { All (λ l. l.variable ≤ trues.now.variables) (clause_at self.now.rows number) }
         ensures { (value : ℕ → Bool) → GivesTrue value trues.now.members → IfSome result (λ p.
             (p < length (clause_at self.now.rows number))
             × IsTrueLiteral value (slice_index_or (clause_at self.now.rows number) p (literal 0 false))) }
     {
+        if !self.is_worth_a_look(place, literals, trues) {
+            return None;
+        }
         let row = row_at(&self.rows, number);
         let found = self.guess(row, place, trues)?;
         if found < row.len() && trues.makes_true(row[found]) {
