@@ -2,7 +2,7 @@
 from typing import Iterator
 
 from .derivation import Models
-from .judging import Judge, ProofWriter, Question
+from .judging import Judge, Question
 from .lines import Header
 from .matching import Clause, Present
 from .packages import Repository
@@ -12,9 +12,9 @@ from .space import At, Space
 class AnswerJudge(Judge):
     """A judge of lines that has no claims, and an answer at the end. Questions are the same in any order."""
 
-    def __init__(self, clauses: list[Clause], variables: int, limit: int, package: int, repository: Repository, proof: ProofWriter | None) -> None:
+    def __init__(self, clauses: list[Clause], variables: int, limit: int, package: int, repository: Repository) -> None:
         self.models: Models | None = None
-        super().__init__(clauses, variables, limit, self.fault_of_model, proof)
+        super().__init__(clauses, variables, limit, self.fault_of_model)
         self.package, self.repository = package, repository
 
     def fault_of_model(self, members: frozenset[int]) -> str | None:
@@ -43,10 +43,10 @@ class AnswerJudge(Judge):
 class ExplanationJudge(AnswerJudge):
     """Its variables are the packages, and a selector for each relation."""
 
-    def __init__(self, present: Present, header: Header, proof: ProofWriter | None = None) -> None:
+    def __init__(self, present: Present, header: Header) -> None:
         packages, relations = len(present.repository.packages), len(present.clauses)
         clauses = [(*clause, -(packages + number)) for number, clause in enumerate(present.clauses, 1)]
-        super().__init__(clauses, packages + relations, header.limit, header.numbers[2], present.repository, proof)
+        super().__init__(clauses, packages + relations, header.limit, header.numbers[2], present.repository)
         self.present, self.packages, self.relations = present, packages, relations
         self.selectors: frozenset[int] | None = None       # of the last refuted question of the package and selectors alone
         self.needed: set[int] = set()                      # those of them that later lines decide
@@ -93,11 +93,11 @@ class ExplanationJudge(AnswerJudge):
 class RepairJudge(AnswerJudge):
     """Its variables are those of the space of futures, and the counter: Moved of each cluster, and More."""
 
-    def __init__(self, space: Space, header: Header, proof: ProofWriter | None = None) -> None:
+    def __init__(self, space: Space, header: Header) -> None:
         self.space, self.most = space, header.numbers[4]
         self.base, self.count = len(space.meanings), len(space.at)
         variables = self.base + self.count * (2 + self.most)
-        super().__init__([*space.clauses, *self.counter()], variables, header.limit, header.numbers[3], space.repository, proof)
+        super().__init__([*space.clauses, *self.counter()], variables, header.limit, header.numbers[3], space.repository)
         self.present = self.package + 1
         self.closed: dict[frozenset[int], set[bool]] = {}      # questions, and whether they were refuted
         self.least: list[int] | None = None                    # the true variables At of the model that moves the fewest clusters

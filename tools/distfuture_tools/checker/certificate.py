@@ -3,7 +3,7 @@ from array import array
 from typing import NamedTuple, Sequence
 
 from .derivation import Models
-from .judging import RECENT, Judge, ProofWriter
+from .judging import RECENT, Judge
 from .lines import Claim, claim_of, rises
 from .matching import Present
 from .packages import Repository
@@ -66,8 +66,8 @@ class Subject:
 class CertificateJudge(Judge):
     """Judges the lines of a certificate, and keeps what its claims say."""
 
-    def __init__(self, subject: Subject, limit: int, proof: ProofWriter | None = None) -> None:
-        super().__init__(subject.clauses, subject.variables, limit, subject.fault_of_model, proof)
+    def __init__(self, subject: Subject, limit: int) -> None:
+        super().__init__(subject.clauses, subject.variables, limit, subject.fault_of_model)
         self.subject = subject
         self.claims: list[Claimed] = []
         self.installations: dict[int, Installation] = {}

@@ -39,31 +39,34 @@ class Checker:
         return Accepted(header, judge)
 
     def judge_of(self, header: Header, make_proof: MakeProof | None) -> CertificateJudge | AnswerJudge:
-        if header.kind in KINDS:
-            subject = self.subject(header.kind, header.essential)
-            numbers, make = subject.numbers, lambda proof: CertificateJudge(subject, header.limit, proof)
-        elif header.kind == "explain":
-            present = Present(self.repository, False)
-            numbers = len(self.repository.packages), len(present.clauses), header.numbers[2]
-            make = lambda proof: ExplanationJudge(present, header, proof)
-        else:
-            return self.repair_judge(header, make_proof)
-        if header.numbers != numbers or (header.kind == "explain" and not 1 <= header.numbers[2] <= numbers[0]):
-            raise refused(1, "BadHeader")
-        judge = make(None)
+        make = {"explain": self.explanation_judge, "repair": self.repair_judge}.get(header.kind, self.certificate_judge)
+        judge = make(header)
         judge.proof = make_proof(judge.clauses, judge.variables) if make_proof else None
         return judge
 
-    def repair_judge(self, header: Header, make_proof: MakeProof | None) -> RepairJudge:
+    def certificate_judge(self, header: Header) -> CertificateJudge:
+        subject = self.subject(header.kind, header.essential)
+        guard(header.numbers == subject.numbers)
+        return CertificateJudge(subject, header.limit)
+
+    def explanation_judge(self, header: Header) -> ExplanationJudge:
+        present, (packages, relations, package) = Present(self.repository, False), header.numbers
+        guard((packages, relations) == (len(self.repository.packages), len(present.clauses)) and 1 <= package <= packages)
+        return ExplanationJudge(present, header)
+
+    def repair_judge(self, header: Header) -> RepairJudge:
         packages, variables, clauses, package, most = header.numbers
         space = Space(self.repository.newest(), False)
-        if packages != len(space.repository.packages) or not 1 <= package <= packages or most > 64:
-            raise refused(1, "BadHeader")
+        guard(packages == len(space.repository.packages) and 1 <= package <= packages and most <= 64)
         judge = RepairJudge(space, header)
-        if (variables, clauses) != (judge.variables, len(judge.inputs)):
-            raise refused(1, "BadHeader")
-        judge.proof = make_proof(judge.clauses, judge.variables) if make_proof else None
+        guard((variables, clauses) == (judge.variables, len(judge.inputs)))
         return judge
+
+
+def guard(is_right: bool) -> None:
+    """The numbers of a first line are those of the archive."""
+    if not is_right:
+        raise refused(1, "BadHeader")
 
 
 class Accepted:

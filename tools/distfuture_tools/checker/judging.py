@@ -25,10 +25,10 @@ class Judge:
     `fault_of` says what is wrong with the true variables of an `m` line.
     """
 
-    def __init__(self, clauses: Sequence[Clause], variables: int, limit: int, fault_of: Callable[[frozenset[int]], str | None],
-                 proof: ProofWriter | None = None) -> None:
+    def __init__(self, clauses: Sequence[Clause], variables: int, limit: int, fault_of: Callable[[frozenset[int]], str | None]) -> None:
         self.inputs, self.clauses = clauses, list(clauses)
-        self.variables, self.limit, self.fault_of, self.proof = variables, limit, fault_of, proof
+        self.variables, self.limit, self.fault_of = variables, limit, fault_of
+        self.proof: ProofWriter | None = None
         self.question: Question | None = None
         self.asked_at = 0                                  # how many clauses there were at the last question
         self.refuted: set[Question] = set()
