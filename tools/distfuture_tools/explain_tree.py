@@ -53,7 +53,7 @@ def parser() -> argparse.ArgumentParser:
     return result
 
 
-def answer_of(asked) -> Explanation:
+def answer_of(asked: argparse.Namespace) -> Explanation:
     if (asked.package is None) == (asked.answer is None):
         raise Fault("one of ANSWER and --package is needed", 2)
     if asked.package:

@@ -13,6 +13,7 @@ from .checker.space import Against, At, Fresh, Installed, Kept, Law, New, Now, S
 from .command import Fault
 
 CLAIMS = b"xysoac"
+NOW = 1    # the variable of the archive as it is
 
 
 @dataclass
@@ -144,6 +145,19 @@ class Words:
         return isinstance(self.source(number), Law)
 
     # ---- refutations
+
+    def is_claimed(self, question: tuple[int, ...], package: int) -> bool:
+        """Whether a question is one that the claim on a package is about; a certificate may ask others."""
+        if question == self.subject.question(package):
+            return True
+        if len(question) != 2 or question[0] != self.subject.variable(package):
+            return False
+        space = self.subject.space
+        return question[1] < 0 if space is None else question[1] > 0 and isinstance(space.meanings[question[1] - 1], At)
+
+    def asks_of_today(self, question: tuple[int, ...]) -> bool:
+        """Whether a question is about the archive as it is, at kind challenged."""
+        return self.subject.kind == "challenged" and question[0] == NOW
 
     def steps(self, refutation: Refutation) -> Iterator[Step]:
         """The hints one after another, each with what follows."""

@@ -2,7 +2,6 @@
 import argparse
 from typing import Iterator
 
-from .checker.space import At
 from .command import DONE, FOUND, Fault, parser_of
 from .explain_tree import repository_of
 from .explanation import quoted
@@ -31,15 +30,13 @@ def parser() -> argparse.ArgumentParser:
 
 def is_about(words: Words, refutation: Refutation, other: str | None) -> bool:
     """Whether a refutation is about another package, or about a source or a package of it."""
-    if other is None or len(refutation.question) < 2:
+    if other is None or len(refutation.question) < 2 or words.asks_of_today(refutation.question):
         return other is None
     variable = abs(refutation.question[1])
     space = words.subject.space
     if space is None:
         return words.variable(variable) == other or name_of(words.variable(variable)) == other
     meaning = space.meanings[variable - 1]
-    if not isinstance(meaning, At):
-        return False
     members = [words.packages[number - 1] for number in space.classes.clusters[meaning.cluster].members]
     return other in {name.decode() for package in members for name in (package.name, package.source[0])}
 
@@ -47,14 +44,13 @@ def is_about(words: Words, refutation: Refutation, other: str | None) -> bool:
 def title(words: Words, refutation: Refutation) -> str:
     """What is refuted."""
     kind, question = words.subject.kind, refutation.question
-    package = words.variable(max(question[:1 + (question[0] == 1 and kind != "strong")]))
     if kind == "outdated":
-        return f"no future can install {package}"
+        return f"no future can install {words.variable(question[0])}"
     if kind == "strong" and len(question) == 2:
-        return f"{package} can't be installed without {words.variable(-question[1])}"
-    if kind == "challenged" and question[0] != 1:
-        return f"{package} is broken by {words.variable(question[1])}"
-    return f"{package} can't be installed"
+        return f"{words.variable(question[0])} can't be installed without {words.variable(-question[1])}"
+    if kind == "challenged" and not words.asks_of_today(question):
+        return f"{words.variable(question[0])} is broken by {words.variable(question[1])}"
+    return f"{words.variable(question[-1])} can't be installed"
 
 
 def text_lines(words: Words, refutation: Refutation, with_laws: bool, front: str = "    ") -> Iterator[str]:
@@ -95,7 +91,8 @@ def main(words: list[str]) -> int:
         with Progress(f"reading {asked.cert} ..."):
             group = read_group(file, header, package)
     said = Words(subject, group)
-    found = sorted((it for it in group.refutations if is_about(said, it, asked.other)), key=lambda it: len(it.hints))
+    its = (it for it in group.refutations if said.is_claimed(it.question, package) and is_about(said, it, asked.other))
+    found = sorted(its, key=lambda it: len(it.hints))
     if not found:
         raise Fault(f"the certificate refutes nothing here: {asked.package} is claimed to be as installable as it can be", FOUND)
     found = found[:asked.most] if asked.most else found

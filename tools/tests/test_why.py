@@ -28,6 +28,12 @@ class Why(unittest.TestCase):
     def test_one_pair(self):
         self.assertEqual(asked("strong", "q=1", "libx"), "".join(Q_WITHOUT.splitlines(keepends=True)[2:]))
 
+    def test_the_first_package(self):
+        text = asked("strong", "addon")
+        self.assertTrue(text.startswith("addon=1 can't be installed\n"))
+        _, text = run(why.main, stored("merged.txt"), stored("merged.strong.cert"), "addon", "mail")
+        self.assertTrue(text.startswith("addon=1 can't be installed without mail=3\n"))
+
     def test_essential_mode(self):
         self.assertEqual(asked("strong-essential", "q"), Q_WITHOUT)
 
