@@ -4,11 +4,14 @@ import importlib.util
 import io
 import lzma
 import os
+import shutil
 import tempfile
 import unittest
 from typing import Callable
 
-DATA = os.path.join(os.path.dirname(__file__), "data")
+HERE = os.path.dirname(os.path.abspath(__file__))
+DATA = os.path.join(HERE, "data")
+BUILT = os.path.join(HERE, "..", "..", "crates", "distfuture", "out", "distfuture")
 
 
 def require(*modules: str) -> None:
@@ -36,9 +39,8 @@ def run(main: Callable[[list[str]], int], *words: str) -> tuple[int, str]:
 
 
 def program_or_skip() -> str:
-    """The program, or the test is skipped."""
-    from distfuture_tools.program import find_program
-    program = find_program()
+    """The program that DISTFUTURE names or that is built here, or the test is skipped."""
+    program = shutil.which(os.environ.get("DISTFUTURE", BUILT))
     if program is None:
         raise unittest.SkipTest("there is no built program: name it by DISTFUTURE")
     return program
