@@ -30,16 +30,22 @@ class Package:
 
 
 def packages_of(path: str) -> Iterator[Package]:
-    """The packages of a file, compressed or not, in its order."""
+    """The packages of a file, compressed or not, in its order. There is at least one: an empty file is a list that went wrong."""
     if not os.access(path, os.R_OK):
         raise Fault(f"{path} can't be read", READ_FAULT)
+    is_empty = True
     try:
         with apt_pkg.TagFile(path) as file:
             for section in file:
+                is_empty = False
                 source = section.get("Source", section["Package"]).split(" ")[0]
                 yield Package(section["Package"], section["Version"], source, section.get("Architecture", "all"), str(section).strip("\n"))
-    except (apt_pkg.Error, KeyError, UnicodeDecodeError) as error:
+    except KeyError as error:
+        raise Fault(f"{path} is no Packages file: a stanza has no {error.args[0]}", BAD_INPUT) from error
+    except (apt_pkg.Error, UnicodeDecodeError) as error:
         raise Fault(f"{path} is no Packages file: {error}", BAD_INPUT) from error
+    if is_empty:
+        raise Fault(f"{path} has no stanza", BAD_INPUT)
 
 
 def newest(packages: Iterable[Package]) -> dict[str, Package]:

@@ -50,6 +50,9 @@ def start(module: str) -> NoReturn:
     except Fault as fault:
         print(f"{name}: {fault}", file=sys.stderr)
         status = fault.status
+    except UnicodeDecodeError as error:
+        print(f"{name}: a file is no text: {error}", file=sys.stderr)
+        status = BAD_INPUT
     except BrokenPipeError:
         os.dup2(os.open(os.devnull, os.O_WRONLY), sys.stdout.fileno())
         status = WRITE_FAULT

@@ -31,8 +31,7 @@ class Joined:
 
     def take(self, path: str) -> Iterator[Package]:
         """The packages of a file that did not come before."""
-        count = 0
-        for count, package in enumerate(packages_of(path), 1):
+        for package in packages_of(path):
             self.look_at_architecture(package, path)
             held = self.held.setdefault((package.name, package.version), (package, path))
             if held[0] is package:
@@ -41,8 +40,6 @@ class Joined:
                 self.twice += 1
             else:
                 raise Fault(f"{package.label} is another package in {path} than in {held[1]}: these are not files of one suite")
-        if count == 0:
-            raise Fault(f"{path} has no stanza")
 
     def look_at_architecture(self, package: Package, path: str) -> None:
         if package.architecture == "all":

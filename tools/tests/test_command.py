@@ -40,6 +40,16 @@ class Statuses(unittest.TestCase):
                       ("why", "/none", "/none", "a"), ("steps-between", "/none", "/none"), ("explain-tree", "/none", "/none")):
             self.assertEqual(run_tool(*words).returncode, 5, words)
 
+    def test_files_that_are_something_else(self):
+        packages, report, cert = stored("today.txt"), stored("today.strong"), stored("today.strong.cert")
+        reports = ("--challenged", stored("today.challenged"), "--classes", stored("today.classes"))
+        for words in (("top", packages), ("diff", report, packages), ("one", "a", cert), ("join", packages, report), ("why", packages, report, "q"),
+                      ("coming", packages, report, *reports), ("coming", packages, os.devnull, *reports), ("explain-tree", packages, sys.executable),
+                      ("steps-between", packages, report), ("recheck", report, cert)):
+            done = run_tool(*words)
+            self.assertEqual((done.returncode, done.stderr.count("\n")), (3, 1), (words, done.stderr))
+        self.assertEqual(run_tool("recheck", packages, report).returncode, 4)
+
     def test_no_program(self):
         environment = {**os.environ, "DISTFUTURE": "/none"}
         for words in (("coming", stored("today.txt"), stored("later.txt")), ("why-all", stored("today.txt")), ("nightly", stored("today.txt"), "/tmp")):
