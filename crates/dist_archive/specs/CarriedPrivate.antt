@@ -15,10 +15,10 @@ CanCarry old new entries carried = (kept : List Bool) × AreCarried old new kept
 
 -- an entry before a place, and at this one or behind it, is carried
 pub record IsCarriedFrom (old new : List ℕ) (entries : List Provide) (carried : Provide) (from behind : ℕ) : Type 0
-    where
-  pub place : ℕ
-  pub entry : Provide
-  pub is : slice_get entries place ≡ Some entry
-  pub fits : IsCarried old new entry carried
-  pub later : from ≤ place
-  pub next : behind ≡ place + 1
+  where
+    pub place : ℕ
+    pub entry : Provide
+    pub is : slice_get entries place ≡ Some entry
+    pub fits : IsCarried old new entry carried
+    pub later : from ≤ place
+    pub next : behind ≡ place + 1

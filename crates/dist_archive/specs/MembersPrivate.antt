@@ -10,6 +10,7 @@ use Rattle.dist_archive.specs.declared.members.Members.TheVariants.{Every, Broug
 use Rattle.dist_archive.specs.declared.slots.Slot.{Slot}
 use Rattle.dist_archive.specs.declared.uploads.Change.{Change}
 
+-- the members of a cluster that may be held, of all of them
 abbrev pub may_hold : (members : List ℕ) → Members → List ℕ
 may_hold members Every = members
 may_hold members (Brought numbers) = numbers.items
