@@ -10,7 +10,7 @@ from .support import require, stored, text_of
 require("apt_pkg", "debian")
 
 FOLDER = os.path.dirname(os.path.dirname(os.path.abspath(__file__)))
-TOOLS = sorted(name for name in os.listdir(FOLDER) if name not in ("setup", "test") and os.access(f"{FOLDER}/{name}", os.X_OK) and not os.path.isdir(f"{FOLDER}/{name}"))
+TOOLS = sorted(name for name in os.listdir(FOLDER) if name not in ("setup", "test", "install", "deb") and os.access(f"{FOLDER}/{name}", os.X_OK) and not os.path.isdir(f"{FOLDER}/{name}"))
 
 
 def run_tool(name: str, *words: str, **options) -> subprocess.CompletedProcess:
