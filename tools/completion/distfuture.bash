@@ -10,15 +10,20 @@ _distfuture() {
   while [ "$place" -lt "$COMP_CWORD" ]; do
     word=${COMP_WORDS[place]}
     case $word in
-      --limit | --package | --most | --size | --seed) used="$used$word " place=$((place + 1)) ;;
-      = | --) ;;
+      --limit | --package | --most | --size | --seed)
+        used="$used$word "
+        # bash takes `--limit=7` for three words, and `a=1` too
+        if [ "${COMP_WORDS[place + 1]}" = = ]; then place=$((place + 1)); fi
+        place=$((place + 1)) ;;
+      =) place=$((place + 1)) ;;
+      --) ;;
       --*) used="$used${word%%=*} " ;;
       *) if [ -z "$command" ]; then command=$word; else files=$((files + 1)); fi ;;
     esac
     place=$((place + 1))
   done
 
-  case $previous in --limit | --package | --most | --size | --seed) return ;; esac
+  case $previous in --limit | --package | --most | --size | --seed | =) return ;; esac
   case $command in
     strong | outdated | challenged) options="--limit --essential" ;;
     explain) options="--package --limit" ;;

@@ -111,6 +111,8 @@ class Completion(unittest.TestCase):
         self.assertEqual(self.complete("strong", f"{FOLDER}/RE"), [f"{FOLDER}/README.md"])
         self.assertEqual(self.complete("classes", "PACKAGES", f"{FOLDER}/RE"), [])
         self.assertEqual(self.complete("check", "--"), [])
+        self.assertEqual(self.complete("explain", "--package", "=", "a", "=", "1", "--"), ["--limit"])
+        self.assertEqual(self.complete("explain", "--package", "a", "=", "1", "PACKAGES", f"{FOLDER}/RE"), [f"{FOLDER}/README.md"])
 
     @unittest.skipUnless(shutil.which("zsh"), "zsh is not installed")
     def test_zsh_reads_its_file(self):
