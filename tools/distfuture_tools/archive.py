@@ -58,9 +58,9 @@ def newest(packages: Iterable[Package]) -> dict[str, Package]:
     return found
 
 
-def guard_architectures(first: dict[str, Package], second: dict[str, Package]) -> None:
+def guard_architectures(first: Iterable[str], second: Iterable[str]) -> None:
     """Two archives are compared only where they are for one architecture."""
-    its = [{package.architecture for package in packages.values()} - {"all"} for packages in (first, second)]
+    its = [set(architectures) - {"all"} for architectures in (first, second)]
     if all(its) and its[0] != its[1]:
         raise Fault(f"one file is for {' '.join(sorted(its[0]))}, the other for {' '.join(sorted(its[1]))}")
 

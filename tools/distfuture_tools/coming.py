@@ -172,7 +172,7 @@ def main(words: list[str]) -> int:
         if not asked.classes:
             run(program_or_fault(asked.program), ["classes", asked.packages], classes)
         today, later = newest(packages_of(asked.packages)), newest(packages_of(asked.later))
-        guard_architectures(today, later)
+        guard_architectures(*((package.architecture for package in its.values()) for its in (today, later)))
         uploads = list(uploads_of(read_clusters(classes), later))
         found = breaking_uploads(uploads, read_breaks(challenged), later)
         print(f"{len(found)} of {len(uploads)} uploads break something")
