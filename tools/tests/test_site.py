@@ -60,7 +60,7 @@ class Site(Files):
         text = text_of(f"{folder}/index.html")
         self.assertIn("<h1>A &lt;list&gt; &amp; more</h1>", text)
         for count, name in ((12, "packages"), (10, "sources"), (6, "strong dependencies"), (0, "undecided")):
-            self.assertIn(f"<dt>{name}</dt><dd>{count}</dd>", text)
+            self.assertRegex(text, rf"<dt>{name}</dt>\s*<dd>{count}</dd>")
         self.assertIn('<a xlink:href="package.html#libx=1"', text)
         self.assertIn("Without an explanation here: 5", text_of(f"{folder}/broken.html"))
         self.assertIn('<a href="source.html#x">x</a></th><td class="number">2</td>', text_of(f"{folder}/uploads.html"))

@@ -110,7 +110,8 @@ class Plan:
         """What is done on a list stands under its hash; its name leads there."""
         folder = os.path.join(self.output, "archives")
         path = os.path.join(folder, archive.name)
-        os.makedirs(folder, exist_ok=True)
+        for needed in (folder, os.path.join(self.output, "lists", archive.hash)):
+            os.makedirs(needed, exist_ok=True)
         if os.path.islink(path):
             os.unlink(path)
         os.symlink(os.path.join("..", "lists", archive.hash), path)
@@ -150,16 +151,16 @@ def main(words: list[str]) -> int:
     from .results import write_charts, write_table      # --help does not need matplotlib
 
     plan = Plan(asked)
-    os.makedirs(os.path.join(plan.output, "lists"), exist_ok=True)
+    os.makedirs(plan.output, exist_ok=True)
     with locked(plan.output):
         archives = archives_below(asked.folder, plan.output)
+        for archive in archives:
+            plan.link(archive)
         tasks = plan.tasks(archives)
         begun = waiting(tasks)
         print(f"{len(archives)} lists, {len(tasks)} questions, {len(begun)} to ask", flush=True)
         outcomes = run_tasks(begun, asked) if begun else []
         failed = {it.task.key for it in outcomes if not it.is_done}
-        for archive in archives:
-            plan.link(archive)
         rows = [plan.row(archive, failed).values() for archive in archives]
         write_table(rows, os.path.join(plan.output, f"table{plan.ending}.csv"))
         charts = write_charts(rows, plan.output, plan.ending)

@@ -4,6 +4,7 @@
 
 const SHOWN = 200;    // names of a list that are shown at once
 const byId = id => document.getElementById(id);
+const classText = (versions, example) => (versions === `= ${example}` ? versions : `${versions}, such as ${example}`);
 const counted = (number, one, many = `${one}s`) => `${number.toLocaleString("en")} ${number === 1 ? one : many}`;
 
 /* Lists of the items that have equal keys, in the order of the first ones. */
@@ -63,10 +64,12 @@ function nameList(kind, numbers) {
   return [element("p", { className: "filter" }, filter, told), list, more];
 }
 
-function table(titles, rows) {
+/* A table that scrolls by itself where it is too wide, also by keyboard. */
+function table(label, titles, rows) {
   const head = element("tr", {}, ...titles.map(text => element("th", { scope: "col" }, text)));
   const body = rows.map(cells => element("tr", {}, ...cells.map(cell => element("td", {}, cell))));
-  return element("div", { className: "table" }, element("table", {}, element("thead", {}, head), element("tbody", {}, ...body)));
+  const place = { className: "table", tabIndex: 0, role: "region", "aria-label": label };
+  return element("div", place, element("table", {}, element("thead", {}, head), element("tbody", {}, ...body)));
 }
 
 /* ---- a package */
@@ -88,9 +91,11 @@ function explanationOf(packages, [title, nodes]) {
 function repairText(repair) {
   if (repair.outdated) return "However many other sources move, it can't be installed: it must be uploaded anew itself.";
   if (repair.least === 0) return "No source has to move: a package of a new name is enough.";
-  if (repair.least !== undefined) return `${counted(repair.least, "source")} must move to a later version, and no fewer will do. This is enough, with an example of a version:`;
-  const least = `At least ${counted(repair["at least"], "source")} must move to a later version`;
-  return repair["at most"] === undefined ? `${least}; no number was found that is enough.` : `${least}. These ${repair["at most"]} are enough, with examples of versions:`;
+  if (repair.least !== undefined) {
+    return `${counted(repair.least, "source")} must move to a later version, and no fewer will do. This is enough, with an example of a version:`;
+  }
+  const least = `At least ${counted(repair["at least"], "source")} must move to a later version`, most = repair["at most"];
+  return most === undefined ? `${least}; no number was found that is enough.` : `${least}. These ${most} are enough, with examples of versions:`;
 }
 
 function repairOf(sources, repair) {
@@ -115,7 +120,8 @@ function aboutPackage(number, [source, architecture]) {
   const label = packages.labels[number], name = nameOf(label);
   const others = packages.numbers.get(name).filter(other => other !== number);
   const versions = others.flatMap(other => [" ", element("a", { href: packages.link(other) }, packages.labels[other].slice(name.length + 1))]);
-  return [`version ${label.slice(name.length + 1)}, ${architecture}, of the source `, linkTo(sources, source), ...(others.length ? [", also at", ...versions] : [])];
+  const also = others.length ? [", also at", ...versions] : [];
+  return [`version ${label.slice(name.length + 1)}, ${architecture}, of the source `, linkTo(sources, source), ...also];
 }
 
 /* A row for each source, with the classes of its versions on lines of their own. */
@@ -123,7 +129,7 @@ function brokenRows(its) {
   const rows = grouped(its, ([source, , , isSure]) => [source, isSure]);
   return rows.map(group => {
     const [source, , , isSure] = group[0];
-    const lines = group.map(([, versions, example]) => element("div", {}, versions === `= ${example}` ? versions : `${versions}, such as ${example}`));
+    const lines = group.map(([, versions, example]) => element("div", {}, classText(versions, example)));
     return [linkTo(site.kinds.sources, source), element("div", {}, ...lines), isSure ? "yes" : "undecided"];
   });
 }
@@ -136,7 +142,7 @@ async function showPackage(number) {
   byId("states").replaceChildren(...statesOf(record));
   fill("explanation", null, record.explanation && explanationOf(packages, record.explanation));
   fill("repair", null, record.repair && repairOf(sources, record.repair));
-  fill("broken_by", null, record.broken_by && [table(["Source", "Versions", "Breaks it"], brokenRows(record.broken_by))]);
+  fill("broken_by", null, record.broken_by && [table("Uploads that would break it", ["Source", "Versions", "Breaks it"], brokenRows(record.broken_by))]);
   for (const key of ["needs", "perhaps", "impact"]) {
     fill(key, record[key]?.length ?? 0, record[key] && nameList(packages, record[key]));
   }
@@ -151,7 +157,8 @@ function recordsOf(record, word) {
 function comingOf([version, broken, moving]) {
   const { packages } = site.kinds, too = new Set(moving);
   const stays = broken.filter(number => !too.has(number));
-  const part = (title, numbers) => (numbers.length ? [element("p", {}, `${title}: ${numbers.length.toLocaleString("en")}`), ...nameList(packages, numbers)] : []);
+  const titleOf = (text, numbers) => element("p", {}, `${text}: ${numbers.length.toLocaleString("en")}`);
+  const part = (text, numbers) => (numbers.length ? [titleOf(text, numbers), ...nameList(packages, numbers)] : []);
   return [element("h3", {}, `${version} breaks ${counted(broken.length, "package")}`),
           ...part("These stay as they are", stays), ...part("These come anew too", moving)];
 }
@@ -166,9 +173,10 @@ function clusterOf([top, members, classes]) {
 function classesOf(group) {
   const { packages } = site.kinds, [, , breaks, perhaps] = group[0];
   const effect = breaks.length ? `break ${counted(breaks.length, "package")}` : "break nothing";
-  const lines = group.map(([versions, example]) => element("li", {}, versions === `= ${example}` ? versions : `${versions}, such as ${example}`));
+  const lines = group.map(([versions, example]) => element("li", {}, classText(versions, example)));
   const undecided = perhaps.length ? [element("p", {}, "Undecided whether they break:"), ...nameList(packages, perhaps)] : [];
-  return [element("h3", {}, `These later versions ${effect}`), element("ul", { className: "list" }, ...lines), ...(breaks.length ? nameList(packages, breaks) : []), ...undecided];
+  const broken = breaks.length ? nameList(packages, breaks) : [];
+  return [element("h3", {}, `These later versions ${effect}`), element("ul", { className: "list" }, ...lines), ...broken, ...undecided];
 }
 
 async function showSource(number) {
