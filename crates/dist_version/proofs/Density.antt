@@ -128,7 +128,7 @@ last_digit (b ∷ c ∷ cs) =
 
 -- ---- tildes
 
-tildes-all : (test : ℕ → Bool) (n : ℕ) → test tilde ≡ true → list_all test (replicate n tilde) ≡ true
+pub tildes-all : (test : ℕ → Bool) (n : ℕ) → test tilde ≡ true → list_all test (replicate n tilde) ≡ true
 tildes-all test zero h = refl
 tildes-all test (suc n) h = and_from (test tilde) (list_all test (replicate n tilde)) h (tildes-all test n h)
 
@@ -150,7 +150,7 @@ text_start-shorter part = omega (arith, length-take (prefix_len other_byte part)
 then_less : (o p : Ordering) → o ≡ Less → ordering_then o p ≡ Less
 then_less o p e = rw e refl
 
-alone : (text : List ℕ) → list_all other_byte text ≡ true → Turned text text [] []
+pub alone : (text : List ℕ) → list_all other_byte text ≡ true → Turned text text [] []
 alone text all =
     let t = turned text [] [] all refl tt tt in
     subst (λ (s : List ℕ). Turned s text [] []) (append-nil text) t
@@ -165,10 +165,10 @@ tildes_part_less n part h =
 
 -- ---- `A` and tildes
 
-abbrev letter_and : ℕ → List ℕ
+abbrev pub letter_and : ℕ → List ℕ
 letter_and n = 65 ∷ replicate n tilde
 
-letter_turn : (n : ℕ) → Turned (letter_and n) (letter_and n) [] []
+pub letter_turn : (n : ℕ) → Turned (letter_and n) (letter_and n) [] []
 letter_turn n = alone (letter_and n) (tildes-all other_byte n refl)
 
 letter_above_nothing : (n : ℕ) → part_cmp [] (letter_and n) ≡ Less
@@ -223,7 +223,7 @@ letter_below n (c ∷ cs) halts less size = part_cmp-turn (letter_and n) (c ∷ 
 
 -- ---- a revision and what is put behind it
 
-abbrev extended : List ℕ → ℕ → List ℕ
+abbrev pub extended : List ℕ → ℕ → List ℕ
 extended revision tildes = revision ++ extension revision tildes
 
 extension-digit : (revision : List ℕ) (n : ℕ) → ends_in_digit revision ≡ true → extension revision n ≡ letter_and n
@@ -236,10 +236,10 @@ extension-same : (a b : List ℕ) (n : ℕ) → ends_in_digit a ≡ ends_in_digi
 extension-same a b n e = rw e refl
 
 -- Extended, a part has the turns that it had, up to its last; then come the extended rest, or `A` and the tildes where nothing is left.
-record ExtendedTurn (part : List ℕ) (n : ℕ) : Type 0 where
-  text : text_start (extended part n) ≡ text_start part
-  number : number_of (extended part n) ≡ number_of part
-  rest : ((0 < length (after_turn part)) × (after_turn (extended part n) ≡ extended (after_turn part) n))
+pub record ExtendedTurn (part : List ℕ) (n : ℕ) : Type 0 where
+  pub text : text_start (extended part n) ≡ text_start part
+  pub number : number_of (extended part n) ≡ number_of part
+  pub rest : ((0 < length (after_turn part)) × (after_turn (extended part n) ≡ extended (after_turn part) n))
       ⊎ ((after_turn part ≡ []) × (after_turn (extended part n) ≡ letter_and n))
 
 some_halts : (test : ℕ → Bool) (x : ℕ) (xs ys : List ℕ) → Halts test (x ∷ xs) → Halts test ((x ∷ xs) ++ ys)
@@ -289,7 +289,7 @@ extended_turn-at n part t (b ∷ d) (c ∷ x) whole text digits rest texts all s
       rest = inl (omega (arith, ap length rest), ap after_turn ext ∙ turn.rest ∙ sym (ap (λ (s : List ℕ). extended s n) rest));
     }
 
-extended_turn : (part : List ℕ) (n : ℕ) → ExtendedTurn part n
+pub extended_turn : (part : List ℕ) (n : ℕ) → ExtendedTurn part n
 extended_turn part n =
     extended_turn-at n part (text_start part) (digit_start (after_text part)) (after_turn part) (parted part) refl refl refl
     (take_while-all other_byte part) (take_while-all is_ascii_digit (after_text part))
@@ -393,7 +393,7 @@ revision-passes : (revision : Option (List ℕ)) → IfSome revision (IsMadeOf i
 revision-passes None made = refl
 revision-passes (Some r) made = made.1
 
-abbrev above_parts : List ℕ → ℕ → Parts
+abbrev pub above_parts : List ℕ → ℕ → Parts
 above_parts text n = record { epoch = epoch_of text; upstream = upstream_of text; revision = Some (extended (unwrap_or (revision_of text) []) n) }
 
 above_spells : (text : List ℕ) (n : ℕ) → fault_of text ≡ None → Spells (above_text text n) (above_parts text n)
@@ -417,7 +417,7 @@ above_spells text n sound =
 pub above_sound : (text : List ℕ) (n : ℕ) → fault_of text ≡ None → fault_of (above_text text n) ≡ None
 above_sound text n sound = no_fault_from_version (above_text text n) (above_parts text n, above_spells text n sound)
 
-above_parts_are : (text : List ℕ) (n : ℕ) → fault_of text ≡ None → above_parts text n ≡ parts_of (above_text text n)
+pub above_parts_are : (text : List ℕ) (n : ℕ) → fault_of text ≡ None → above_parts text n ≡ parts_of (above_text text n)
 above_parts_are text n sound = one_version (above_text text n) (above_parts text n) (above_spells text n sound)
 
 -- ---- where they stand
@@ -455,7 +455,7 @@ below_greater text other n sound less size =
 
 -- ---- tildes alone
 
-abbrev below_parts : List ℕ → Parts
+abbrev pub below_parts : List ℕ → Parts
 below_parts text = record { epoch = 0; upstream = below_text text; revision = None }
 
 lacks_colon : (n : ℕ) → has colon (replicate n tilde) ≡ false
@@ -483,7 +483,7 @@ below_spells text =
 pub below_sound : (text : List ℕ) → fault_of (below_text text) ≡ None
 below_sound text = no_fault_from_version (below_text text) (below_parts text, below_spells text)
 
-below_parts_are : (text : List ℕ) → below_parts text ≡ parts_of (below_text text)
+pub below_parts_are : (text : List ℕ) → below_parts text ≡ parts_of (below_text text)
 below_parts_are text = one_version (below_text text) (below_parts text) (below_spells text)
 
 length-upstream : (other : List ℕ) → length (upstream_of other) ≤ length other

@@ -32,7 +32,7 @@ no_text (c ∷ cs) e = elim (cases_Bool (is_ascii_digit c)) [
 ]
 
 -- any other is that of the first byte, and those of the next ones follow
-some_text : (part : List ℕ) → (weight_at (map weight_of (text_start part)) 0 ≡ pos 0 → ⊥)
+pub some_text : (part : List ℕ) → (weight_at (map weight_of (text_start part)) 0 ≡ pos 0 → ⊥)
     → (0 < length part) × (map weight_of (text_start (drop 1 part)) ≡ drop 1 (map weight_of (text_start part)))
 some_text [] some = absurd (some refl)
 some_text (c ∷ cs) some = elim (cases_Bool (is_ascii_digit c)) [

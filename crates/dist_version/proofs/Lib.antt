@@ -1,3 +1,4 @@
+pub mod BetweenOrder
 pub mod Density
 pub mod Digits
 pub mod Fronts

@@ -15,6 +15,7 @@ ghost use Rattle.dist_version.specs.Order.{version_cmp, weights_of};
 ghost use Rattle.dist_version.specs.Kept.{Keeps, KeepsText, text_of};
 
 mod between;
+mod between_order;
 mod error;
 mod kept;
 mod laws;
@@ -81,7 +82,7 @@ impl Version {
     }
 
     /// The places of the parts in the text.
-    fn places(&self) -> Places
+    pub(crate) fn places(&self) -> Places
         ensures { Keeps self.now result.epoch result.start result.end }
     {
         Places {
@@ -148,7 +149,7 @@ impl Version {
     }
 
     /// What the upstream version is compared by.
-    fn upstream_to_compare(&self) -> &[u8]
+    pub(crate) fn upstream_to_compare(&self) -> &[u8]
         ensures { weights_of result.now ≡ weights_of (upstream_of self.now) }
     {
         match &self.text {
@@ -158,7 +159,7 @@ impl Version {
     }
 
     /// What the revision is compared by. A missing one is an empty part.
-    fn revision_to_compare(&self) -> &[u8]
+    pub(crate) fn revision_to_compare(&self) -> &[u8]
         ensures { weights_of result.now ≡ weights_of (unwrap_or (revision_of self.now) []) }
     {
         match &self.text {

@@ -20,7 +20,7 @@ pub(crate) struct Turn<'a> {
 }
 
 /// How many bytes stand before the first digit.
-fn text_len(part: &[u8]) -> usize
+pub(crate) fn text_len(part: &[u8]) -> usize
     ensures value { result ≡ prefix_len (λ byte. not (is_ascii_digit byte)) part.now }
     ensures within { result ≤ length part.now }
 {
@@ -61,7 +61,7 @@ fn weight(byte: u8) -> i16
 }
 
 /// The weight of the first byte, which is 0 of a digit and past the end.
-fn first_weight(part: &[u8]) -> i16
+pub(crate) fn first_weight(part: &[u8]) -> i16
     ensures { result ≡ weight_at (map weight_of (text_start part.now)) 0 }
 {
     match part.first() {
@@ -143,7 +143,7 @@ fn common_digits_len(a: &[u8], b: &[u8]) -> usize
 }
 
 /// Compares the numbers that two parts begin with. The one with more digits behind its zeros is the greater.
-fn compare_numbers(a: &[u8], b: &[u8]) -> Ordering
+pub(crate) fn compare_numbers(a: &[u8], b: &[u8]) -> Ordering
     ensures { result ≡ nat_cmp (digits_value 10 (digit_start a.now)) (digits_value 10 (digit_start b.now)) }
 {
     let a = without_zeros(a);
@@ -157,7 +157,7 @@ fn compare_numbers(a: &[u8], b: &[u8]) -> Ordering
 }
 
 /// Compares the first turns of two parts, no further than to where their order is decided.
-fn compare_turns(a: &[u8], b: &[u8]) -> Ordering
+pub(crate) fn compare_turns(a: &[u8], b: &[u8]) -> Ordering
     ensures { result ≡ ordering_then
         (weights_cmp (map weight_of (text_start a.now)) (map weight_of (text_start b.now)))
         (nat_cmp (number_of a.now) (number_of b.now)) }
