@@ -2,7 +2,7 @@
 use Rattle.std.specs.Prelude.{◌≡◌, ℕ, ◌+◌, ◌≤◌, nat_lt, List, [], length, drop, None, Some, slice_range, if◌then◌else◌}
 use Rattle.std.specs.Option.{unwrap_or}
 use Rattle.dist_version.specs.declared.kept.Text.{Text}
-use Rattle.dist_version.specs.declared.kept.Text.TheVariants.{Plain, Padded}
+use Rattle.dist_version.specs.declared.kept.Text.TheVariants.{Plain, Shared}
 use Rattle.dist_version.specs.Spelling.{epoch_of, upstream_of, revision_of}
 use Rattle.dist_version.specs.Faults.{fault_of}
 use Rattle.dist_version.specs.Order.{weights_of}
@@ -20,14 +20,14 @@ pub record Keeps (text : List ℕ) (value start end : ℕ) : Type 0 where
 -- the text, which is kept as it was read
 abbrev pub text_of : Text → List ℕ
 text_of (Plain text) = text.items
-text_of (Padded padded) = padded.value.text.items
+text_of (Shared shared) = shared.value.text.items
 
--- What stands beside a padded text has the weights of its upstream version and of its revision.
+-- What stands beside a shared text has the weights of its upstream version and of its revision.
 abbrev pub KeepsParts : Text → Type 0
 KeepsParts (Plain text) = Unit {0}
-KeepsParts (Padded padded) =
-    (weights_of padded.value.upstream.items ≡ weights_of (upstream_of padded.value.text.items))
-    × (weights_of padded.value.revision.items ≡ weights_of (unwrap_or (revision_of padded.value.text.items) []))
+KeepsParts (Shared shared) =
+    (weights_of shared.value.upstream.items ≡ weights_of (upstream_of shared.value.text.items))
+    × (weights_of shared.value.revision.items ≡ weights_of (unwrap_or (revision_of shared.value.text.items) []))
 
 -- both of a version's text and places
 pub record KeepsText (text : Text) (value start end : ℕ) : Type 0 where

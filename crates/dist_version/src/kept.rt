@@ -1,6 +1,6 @@
 //! The text of a version as it is kept. A number may begin with many zeros, which say nothing, and to pass over them at each
 //! comparison could cost more than the other version is long. So a text with many zeros in a row has beside it what it is
-//! compared by.
+//! compared by. Copies of a long text share it, so that many versions of one text take its room once.
 ghost use Rattle.std.specs.Prelude.{◌≡◌, ◌<◌, IfOk, IsTrue, length};
 ghost use Rattle.std.specs.Char.{is_ascii_digit};
 ghost use Rattle.std.specs.List.{list_all};
@@ -12,24 +12,29 @@ use crate::order::{next_turn, without_zeros};
 use crate::reading::Places;
 use smallvec::SmallVec;
 use std::alloc::{AllocError, Global};
+use std::rc::Rc;
 
 /// So many zeros in a row are passed over at each comparison. No text of at most so many bytes has more.
 const MOST_ZEROS: usize = 16;
 
-/// A text with many zeros in a row, and its upstream version and revision with no number that begins with a zero, unless it is 0.
+/// A text of at most so many bytes is copied, where it has few zeros in a row.
+const SHORT: usize = 64;
+
+/// A text that its copies share, and its upstream version and revision with no number that begins with a zero, unless it is 0.
 #[derive(Debug, Drop)]
-pub(crate) struct Padded {
+pub(crate) struct Shared {
     pub(crate) text: SmallVec<u8, 16>,
     pub(crate) upstream: Vec<u8>,
     pub(crate) revision: Vec<u8>,
 }
 
-/// The text of a version. The few that are padded share the room of the others, so that these need no more of it.
+/// The text of a version.
 #[derive(Debug, Drop)]
 pub(crate) enum Text {
     /// Most texts are short, and take no memory of their own.
     Plain(SmallVec<u8, 16>),
-    Padded(Box<Padded>),
+    /// One that is long, or has many zeros in a row.
+    Shared(Rc<Shared>),
 }
 
 /// Whether more zeros stand in a row than are passed over.
@@ -76,18 +81,18 @@ impl Text {
         ensures parts { IfOk result (λ kept. KeepsParts kept) }
     {
         let bytes = text.as_slice();
-        if !has_many_zeros(bytes) {
+        if bytes.len() <= SHORT && !has_many_zeros(bytes) {
             return Ok(Text::Plain(text));
         }
         let alloc = *text.allocator();
         let upstream = with_shortest_numbers(alloc, places.upstream(bytes))?;
         let revision = with_shortest_numbers(alloc, places.revision(bytes).unwrap_or(&[]))?;
-        let padded = Padded {
+        let shared = Shared {
             text,
             upstream,
             revision,
         };
-        Ok(Text::Padded(Box::new(alloc, padded)?))
+        Ok(Text::Shared(Rc::new(alloc, shared)?))
     }
 
     /// The text as it was read.
@@ -96,14 +101,29 @@ impl Text {
     {
         match self {
             Text::Plain(text) => text.as_slice(),
-            Text::Padded(padded) => padded.text.as_slice(),
+            Text::Shared(shared) => shared.text.as_slice(),
         }
     }
 
     pub(crate) fn allocator(&self) -> Global {
         match self {
             Text::Plain(text) => *text.allocator(),
-            Text::Padded(padded) => *padded.text.allocator(),
+            Text::Shared(shared) => *shared.text.allocator(),
+        }
+    }
+
+    /// The same text. One that is shared takes no memory.
+    pub(crate) fn try_clone(&self) -> Result<Text, AllocError>
+        requires { KeepsParts self.now }
+        ensures text { IfOk result (λ copy. text_of copy ≡ text_of self.now) }
+        ensures parts { IfOk result (λ copy. KeepsParts copy) }
+    {
+        match self {
+            Text::Plain(text) => {
+                let copy = SmallVec::from_slice(*text.allocator(), text.as_slice())?;
+                Ok(Text::Plain(copy))
+            }
+            Text::Shared(shared) => Ok(Text::Shared(shared.clone()?)),
         }
     }
 }

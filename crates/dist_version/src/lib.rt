@@ -154,7 +154,7 @@ impl Version {
     {
         match &self.text {
             Text::Plain(_) => self.upstream(),
-            Text::Padded(padded) => padded.upstream.as_slice(),
+            Text::Shared(shared) => shared.upstream.as_slice(),
         }
     }
 
@@ -164,16 +164,20 @@ impl Version {
     {
         match &self.text {
             Text::Plain(_) => self.revision().unwrap_or(&[]),
-            Text::Padded(padded) => padded.revision.as_slice(),
+            Text::Shared(shared) => shared.revision.as_slice(),
         }
     }
 
-    /// The same version, with a text of its own.
+    /// The same version. Where its text is long, both share it.
     pub fn try_clone(&self) -> Result<Version, AllocError>
         ensures { IfOk result (λ version. version ≡ self.now) }
     {
-        let text = SmallVec::from_slice(self.text.allocator(), self.text())?;
-        Version::keep(text, self.places())
+        Ok(Version {
+            text: self.text.try_clone()?,
+            epoch: self.epoch,
+            start: self.start,
+            end: self.end,
+        })
     }
 }
 
