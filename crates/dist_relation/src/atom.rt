@@ -1,6 +1,6 @@
 //! Atoms of relations, and entries of Provides.
 ghost use Rattle.std.specs.Prelude.{◌≡◌, ◌↔◌, IsTrue, IfOk};
-ghost use Rattle.dist_relation.specs.Satisfies.{Satisfies};
+ghost use Rattle.dist_relation.specs.Satisfies.{AllowsOrder, Satisfies};
 ghost use Rattle.dist_relation.specs.EqualityPrivate.{op_eq, qualifier_eq, bound_eq, atom_eq, provide_eq};
 ghost use Rattle.dist_relation.specs.Grammar.{allows_operator};
 ghost use Rattle.dist_relation.specs.Faults.{allows_bar};
@@ -8,6 +8,7 @@ ghost use Rattle.dist_relation.specs.Faults.{allows_bar};
 use crate::copying::TryClone;
 use crate::name::Name;
 use dist_version::Version;
+use std::cmp::Ordering;
 use std::alloc::AllocError;
 
 /// How a version is compared with a bound: `<<`, `<=`, `=`, `>=`, `>>`.
@@ -77,18 +78,26 @@ impl Kind {
     }
 }
 
+impl Op {
+    /// Whether a version may compare so with that of a bound.
+    pub fn allows(self, order: Ordering) -> bool
+        ensures { IsTrue result ↔ AllowsOrder self order }
+    {
+        match self {
+            Op::Lt => order.is_lt(),
+            Op::Le => order.is_le(),
+            Op::Eq => order.is_eq(),
+            Op::Ge => order.is_ge(),
+            Op::Gt => order.is_gt(),
+        }
+    }
+}
+
 /// Whether a version meets a bound, in the order of versions.
 pub fn satisfies(version: &Version, bound: &Bound) -> bool
     ensures { IsTrue result ↔ Satisfies version.now bound.now }
 {
-    let order = version.compare(&bound.version);
-    match bound.op {
-        Op::Lt => order.is_lt(),
-        Op::Le => order.is_le(),
-        Op::Eq => order.is_eq(),
-        Op::Ge => order.is_ge(),
-        Op::Gt => order.is_gt(),
-    }
+    bound.op.allows(version.compare(&bound.version))
 }
 
 impl TryClone for Bound {

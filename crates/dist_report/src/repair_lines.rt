@@ -34,7 +34,8 @@ fn write_move(out: &mut Vec<u8>, space: &Space, cluster: u32, class: u32) -> Res
     out.extend_from_slice(b"move ")?;
     print_cluster(space, cluster, out)?;
     out.extend_from_slice(b" to ")?;
-    out.extend_from_slice(space.example(cluster, class).text())?;
+    let example = space.example(cluster, class).make(*out.allocator())?;
+    out.extend_from_slice(example.text())?;
     out.push(b'\n')?;
     Ok(())
 }

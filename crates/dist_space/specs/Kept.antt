@@ -1,10 +1,9 @@
 -- What a space keeps beside what contracts see of it. No public clause cites it.
-use Rattle.std.specs.Prelude.{◌≡◌, ℕ, ◌<◌, ◌≤◌, ◌^◌, Bool, List, [], ◌++◌, length, map, slice_index_or}
+use Rattle.std.specs.Prelude.{◌≡◌, ℕ, ◌<◌, ◌≤◌, ◌^◌, Bool, List, [], ◌++◌, length, slice_index_or}
 use Rattle.dist_cluster.specs.Top.{ClusterList}
 use Rattle.dist_repo.specs.PackageList.{PackageList}
 use Rattle.dist_repo.specs.Size.{IsWithinSize}
 use Rattle.dist_classes.specs.Answers.{AreClassesOf, AreClassesOfName}
-use Rattle.dist_classes.specs.ClassList.{example_text}
 use Rattle.dist_classes.specs.declared.class_value.Class.{Class}
 use Rattle.dist_base.specs.declared.TheConstants.{MAX_VARIABLES}
 use Rattle.dist_space.specs.declared.errors.SpaceError.{SpaceError}
@@ -12,15 +11,14 @@ use Rattle.dist_space.specs.declared.errors.SpaceError.TheVariants.{TooManyVaria
 use Rattle.dist_space.specs.declared.meaning.Meaning.{Meaning}
 use Rattle.dist_space.specs.Space.{IsExample, IsFrame, IsSpace, SpaceView}
 
--- an example of each class, and no more classes than 32 bits can number
-pub record AreExamples (classes : List Class) (examples : List (List ℕ)) : Type 0 where
-  pub few : length classes < 2 ^ 32
-  pub are : examples ≡ map example_text classes
-  pub each : (k : ℕ) → k < length classes → IsExample classes k
-
 -- the example of each class is a version of it
 abbrev pub AreExampled : List Class → Type 0
 AreExampled classes = (k : ℕ) → k < length classes → IsExample classes k
+
+-- and there are no more classes than 32 bits can number
+pub record AreFewExampled (classes : List Class) : Type 0 where
+  pub few : length classes < 2 ^ 32
+  pub each : AreExampled classes
 
 -- a space with as many variables as may be stated
 pub record IsWhole (s : SpaceView) : Type 0 where

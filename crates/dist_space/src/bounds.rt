@@ -4,22 +4,23 @@ ghost use Rattle.dist_relation.specs.Satisfies.{Satisfies};
 ghost use Rattle.dist_repo.specs.Match.{MatchesByEntry};
 ghost use Rattle.dist_space.specs.Space.{MeetsBound, moved_entry, moved_version};
 
+use dist_classes::Example;
 use dist_relation::{Atom, Provide, satisfies};
 use dist_repo::Repository;
 use dist_version::Version;
 
-/// Whether a version meets the bound of an atom, if it has one.
-pub fn meets_bound(atom: &Atom, version: &Version) -> bool
-    ensures { IsTrue result ↔ MeetsBound atom.now version.now }
+/// Whether an example meets the bound of an atom, if it has one.
+pub fn meets_bound(atom: &Atom, example: &Example) -> bool
+    ensures { IsTrue result ↔ MeetsBound atom.now example.now }
 {
     match &atom.bound {
-        Some(bound) => satisfies(version, bound),
+        Some(bound) => example.satisfies(bound),
         None => true,
     }
 }
 
 /// Whether an entry, as a new version of its package has it, meets the bound of an atom.
-fn meets_moved(atom: &Atom, entry: &Provide, old: &Version, new: &Version) -> bool
+fn meets_moved(atom: &Atom, entry: &Provide, old: &Version, new: &Example) -> bool
     ensures { IsTrue result ↔ IfSome atom.now.bound (λ bound. IsSomeAnd (moved_version old.now new.now entry.now.version) (λ version. Satisfies version bound)) }
 {
     let Some(bound) = &atom.bound else {
@@ -29,7 +30,7 @@ fn meets_moved(atom: &Atom, entry: &Provide, old: &Version, new: &Version) -> bo
         return false;
     };
     if version.compare(old).is_eq() {
-        satisfies(new, bound)
+        new.satisfies(bound)
     } else {
         satisfies(version, bound)
     }
@@ -41,7 +42,7 @@ pub fn matches_moved(
     atom: &Atom,
     entry: &Provide,
     old: &Version,
-    new: &Version,
+    new: &Example,
 ) -> bool
     ensures { IsTrue result ↔ MatchesByEntry repo.now.architecture atom.now (moved_entry old.now new.now entry.now) }
 {

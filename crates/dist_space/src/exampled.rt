@@ -1,69 +1,42 @@
-//! Classes with an example of each, which is made once.
-ghost use Rattle.std.specs.Prelude.{◌≡◌, ◌<◌, ◌^◌, IfOk, OnOk, [], length};
-ghost use Rattle.dist_space.specs.Kept.{AreExampled, AreExamples};
+//! Classes, each of which has an example that is a version of it. It is not made here.
+ghost use Rattle.std.specs.Prelude.{◌≡◌, ◌<◌, ◌^◌, IfOk, length};
+ghost use Rattle.dist_space.specs.Kept.{AreExampled};
 ghost use Rattle.dist_space.specs.Space.{example_at};
 
-use dist_classes::{Classes, example};
-use dist_version::Version;
-use std::alloc::{AllocError, Global};
+use dist_classes::{Classes, Example, class_has_example};
+use std::alloc::AllocError;
 use std::marker::Model;
 
-/// The classes of a cluster or of a new name, with an example of each.
+/// The classes of a cluster or of a new name.
 #[derive(Drop)]
 pub(crate) struct Exampled {
     classes: Classes,
-    examples: Vec<Version>,
 }
 
 impl Model for Exampled {
     ghost use Rattle.std.specs.Prelude.{List};
     ghost use Rattle.dist_classes.specs.declared.class_value.Class.{Class};
-    ghost use Rattle.dist_space.specs.Kept.{AreExamples};
+    ghost use Rattle.dist_space.specs.Kept.{AreFewExampled};
 
     ghost Value = { List Class };
 
     ghost view = { λ e. e.classes };
 
-    ghost invariant = { λ e. AreExamples e.classes e.examples.items };
+    ghost invariant = { λ e. AreFewExampled e.classes };
 }
 
-/// Adds an example of each class to an empty list.
-fn push_examples(
-    alloc: Global,
-    classes: &Classes,
-    examples: &mut Vec<Version>,
-) -> Result<(), AllocError>
-    requires few { length classes.now < 2 ^ 32 }
-    requires none { examples.old.items ≡ [] }
-    ensures { OnOk result (AreExamples classes.now examples.new.items) }
+/// That the example of each class is a version of it.
+fn have_examples(classes: &Classes)
+    ensures { AreExampled classes.now }
 {
     for place in 0..classes.len() {
-        let version = example(alloc, classes.get(place))?;
-        // What this call tells is that the text is a version's.
-        let _text = version.text();
-        examples.push(version)?;
-    }
-    Ok(())
-}
-
-/// An example of each class.
-fn examples_of(alloc: Global, classes: &Classes) -> Result<Vec<Version>, AllocError>
-    requires { length classes.now < 2 ^ 32 }
-    ensures { IfOk result (λ examples. AreExamples classes.now examples.items) }
-{
-    let mut examples = Vec::new(alloc);
-    match push_examples(alloc, classes, &mut examples) {
-        Ok(()) => Ok(examples),
-        Err(error) => {
-            drop(examples);
-            Err(error)
-        }
+        class_has_example(classes.get(place));
     }
 }
 
 impl Exampled {
-    /// Finds an example of each class. More than 4,294,967,295 classes are want of memory.
-    pub(crate) fn new(alloc: Global, classes: Classes) -> Result<Exampled, AllocError>
+    /// Keeps classes. More than 4,294,967,295 are want of memory.
+    pub(crate) fn new(classes: Classes) -> Result<Exampled, AllocError>
         ensures value { IfOk result (λ e. e ≡ classes) }
         ensures each { IfOk result AreExampled }
     {
@@ -71,13 +44,8 @@ impl Exampled {
             drop(classes);
             return Err(AllocError);
         }
-        match examples_of(alloc, &classes) {
-            Ok(examples) => Ok(Exampled { classes, examples }),
-            Err(error) => {
-                drop(classes);
-                Err(error)
-            }
-        }
+        have_examples(&classes);
+        Ok(Exampled { classes })
     }
 
     /// The classes alone.
@@ -96,10 +64,10 @@ impl Exampled {
     }
 
     /// The example of the class of a number.
-    pub(crate) fn example(&self, class: u32) -> &Version
+    pub(crate) fn example(&self, class: u32) -> Example<'_>
         requires { class < length self.now }
-        ensures { result.now ≡ example_at self.now class }
+        ensures { result ≡ example_at self.now class }
     {
-        &self.examples[class as usize]
+        Example::of(self.classes.get(class as usize))
     }
 }

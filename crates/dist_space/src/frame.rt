@@ -97,9 +97,8 @@ fn cluster_numbers(
     }
 }
 
-/// Adds the classes of each cluster, with examples, to an empty list.
+/// Adds the classes of each cluster to an empty list.
 fn push_cluster_classes(
-    alloc: Global,
     finder: &CutFinder,
     clusters: &Clusters,
     classes: &mut Vec<Exampled>,
@@ -109,12 +108,12 @@ fn push_cluster_classes(
     ensures { OnOk result (AreClassesBeside finder.now clusters.now classes.new.items) }
 {
     for cluster in 0..clusters.len() {
-        classes.push(Exampled::new(alloc, finder.classes_of_cluster(clusters, cluster)?)?)?;
+        classes.push(Exampled::new(finder.classes_of_cluster(clusters, cluster)?)?)?;
     }
     Ok(())
 }
 
-/// The classes of each cluster, with examples.
+/// The classes of each cluster.
 fn cluster_classes_of(
     alloc: Global,
     finder: &CutFinder,
@@ -124,7 +123,7 @@ fn cluster_classes_of(
     ensures { IfOk result (λ classes. AreClassesBeside finder.now clusters.now classes.items) }
 {
     let mut classes = Vec::new(alloc);
-    match push_cluster_classes(alloc, finder, clusters, &mut classes) {
+    match push_cluster_classes(finder, clusters, &mut classes) {
         Ok(()) => Ok(classes),
         Err(error) => {
             drop(classes);
@@ -133,9 +132,8 @@ fn cluster_classes_of(
     }
 }
 
-/// Adds the classes of each new name, with examples, to an empty list.
+/// Adds the classes of each new name to an empty list.
 fn push_name_classes<'a>(
-    alloc: Global,
     finder: &CutFinder<'a>,
     names: &'a Names,
     classes: &mut Vec<Exampled>,
@@ -144,12 +142,12 @@ fn push_name_classes<'a>(
     ensures { OnOk result (AreNameClassesBeside finder.now names.now classes.new.items) }
 {
     for name in 0..names.len() {
-        classes.push(Exampled::new(alloc, finder.classes_of_new_name(names.get(name))?)?)?;
+        classes.push(Exampled::new(finder.classes_of_new_name(names.get(name))?)?)?;
     }
     Ok(())
 }
 
-/// The classes of each new name, with examples.
+/// The classes of each new name.
 fn name_classes_of<'a>(
     alloc: Global,
     finder: &CutFinder<'a>,
@@ -158,7 +156,7 @@ fn name_classes_of<'a>(
     ensures { IfOk result (λ classes. AreNameClassesBeside finder.now names.now classes.items) }
 {
     let mut classes = Vec::new(alloc);
-    match push_name_classes(alloc, finder, names, &mut classes) {
+    match push_name_classes(finder, names, &mut classes) {
         Ok(()) => Ok(classes),
         Err(error) => {
             drop(classes);

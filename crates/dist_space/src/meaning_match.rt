@@ -14,7 +14,7 @@ impl Space {
         ensures { IsTrue result ↔ IsMatchedBy self.now atom.now (meaning.New member class) }
     {
         self.package(member).name == atom.name
-            && meets_bound(atom, self.example(self.cluster_of(member), class))
+            && meets_bound(atom, &self.example(self.cluster_of(member), class))
     }
 
     fn kept_matches(&self, atom: &Atom, member: u32, class: u32, entry: u32) -> bool
@@ -24,7 +24,7 @@ impl Space {
         let package = self.package(member);
         let entry = package.provides.get(entry as usize);
         let example = self.example(self.cluster_of(member), class);
-        matches_moved(self.repo(), atom, entry, &package.version, example)
+        matches_moved(self.repo(), atom, entry, &package.version, &example)
     }
 
     fn fresh_matches(&self, atom: &Atom, name: u32, class: u32) -> bool
@@ -32,7 +32,7 @@ impl Space {
         ensures { IsTrue result ↔ IsMatchedBy self.now atom.now (meaning.Fresh name class) }
     {
         *self.frame.names.get(name as usize) == atom.name
-            && meets_bound(atom, self.name_example(name, class))
+            && meets_bound(atom, &self.name_example(name, class))
     }
 
     /// Whether an atom, if it is usable, matches what a variable means.

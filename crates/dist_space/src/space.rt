@@ -18,11 +18,10 @@ use crate::numbering::number_meanings;
 use crate::places::Places;
 use crate::space_laws::spaces_are_one;
 use dist_base::Flat;
-use dist_classes::{Classes, Names};
+use dist_classes::{Classes, Example, Names};
 use dist_cluster::Clusters;
 use dist_relation::Name;
 use dist_repo::{Package, Repository};
-use dist_version::Version;
 use std::alloc::{AllocError, Global};
 use std::marker::Model;
 
@@ -257,17 +256,17 @@ impl Space {
     }
 
     /// The example of a class of a cluster.
-    pub fn example(&self, cluster: u32, class: u32) -> &Version
+    pub fn example(&self, cluster: u32, class: u32) -> Example<'_>
         requires { class < length (cluster_classes self.now cluster) }
-        ensures { result.now ≡ example_at (cluster_classes self.now cluster) class }
+        ensures { result ≡ example_at (cluster_classes self.now cluster) class }
     {
         self.frame.classes[cluster as usize].example(class)
     }
 
     /// The example of a class of a new name.
-    pub fn name_example(&self, name: u32, class: u32) -> &Version
+    pub fn name_example(&self, name: u32, class: u32) -> Example<'_>
         requires { class < length (fresh_classes self.now name) }
-        ensures { result.now ≡ example_at (fresh_classes self.now name) class }
+        ensures { result ≡ example_at (fresh_classes self.now name) class }
     {
         self.frame.name_classes[name as usize].example(class)
     }

@@ -60,7 +60,7 @@ fn add_entry(
     let package = space.package(member);
     let entry = package.provides.get(place as usize);
     let example = space.example(space.cluster_of(member), class);
-    if matches_moved(space.repo(), atom, entry, &package.version, example) {
+    if matches_moved(space.repo(), atom, entry, &package.version, &example) {
         return add_variable(space, Meaning::Kept(member, class, place), variables);
     }
     Ok(())
@@ -99,7 +99,7 @@ fn add_new(
     ensures { OnOk result (Adds space.now variables.old.items variables.new.items (λ m. (m ≡ meaning.New member class) × IsMatchedBy space.now atom.now m)) }
 {
     let example = space.example(space.cluster_of(member), class);
-    if package.name == atom.name && meets_bound(atom, example) {
+    if package.name == atom.name && meets_bound(atom, &example) {
         return add_variable(space, Meaning::New(member, class), variables);
     }
     Ok(())
@@ -152,7 +152,7 @@ fn add_fresh_class(
     requires class { class < length (fresh_classes space.now name) }
     ensures { OnOk result (Adds space.now variables.old.items variables.new.items (λ m. (m ≡ meaning.Fresh name class) × IsMatchedBy space.now atom.now m)) }
 {
-    if meets_bound(atom, space.name_example(name, class)) {
+    if meets_bound(atom, &space.name_example(name, class)) {
         return add_variable(space, Meaning::Fresh(name, class), variables);
     }
     Ok(())

@@ -1,7 +1,7 @@
 -- The order of an extended part, and of tildes, without the texts.
 use Rattle.std.proofs.Common.{◌≡◌, ◌≢◌, ℕ, zero, suc, ◌+◌, ◌-◌, ◌<◌, ◌≤◌, List, [], ◌∷◌, ◌++◌, length, map, drop, ℤ, pos, negsuc, Ordering, Less, Equal, Greater}
 use Rattle.std.proofs.Common.{int_cmp, nat_cmp, true, false, None, refl, sym, ap, ap₂, ◌∙◌, subst, ◌⊎◌, inl, inr, arith, length-append}
-use Rattle.std.specs.Prelude.{replicate}
+use Rattle.std.specs.Prelude.{codes, replicate}
 use Rattle.std.specs.Char.{is_ascii_digit}
 use Rattle.std.specs.Ordering.{ordering_then, is_ne}
 use Rattle.std.specs.Option.{unwrap_or}
@@ -12,7 +12,7 @@ use Rattle.dist_version.specs.Between.{above_text, below_text}
 use Rattle.dist_version.specs.Faults.{fault_of}
 use Rattle.dist_version.specs.Order.{after_turn, number_of, part_cmp, text_start, version_cmp, weight_at, weight_of, weights_cmp, weights_of}
 use Rattle.dist_version.specs.OrderLaws.{version_cmp-parts}
-use Rattle.dist_version.specs.Spelling.{Parts, epoch_of, revision_of, upstream_of}
+use Rattle.dist_version.specs.Spelling.{Parts, after_epoch, epoch_digits, epoch_of, revision_of, upstream_of}
 use Rattle.dist_version.proofs.Density.{ExtendedTurn, Turned, above_parts_are, alone, below_parts_are, extended, extended_turn, letter_and, letter_turn, text_start-cons, tildes-all, other_byte}
 use Rattle.dist_version.proofs.InStep.{some_text}
 use Rattle.dist_version.proofs.Then.{then_go_on, then_stop}
@@ -197,3 +197,24 @@ below-order text other =
     let order : Parts → Ordering = λ p. ordering_then (nat_cmp p.epoch (epoch_of other))
     (ordering_then (part_cmp p.upstream (upstream_of other)) (part_cmp (unwrap_or p.revision []) (unwrap_or (revision_of other) []))) in
     version_cmp-parts (below_text text) other ∙ ap order (sym (below_parts_are text))
+
+zero-epoch : epoch_of (codes "0") ≡ 0
+unfolding epoch_of epoch_digits
+zero-epoch = refl
+
+zero-upstream : upstream_of (codes "0") ≡ codes "0"
+unfolding upstream_of after_epoch
+zero-upstream = refl
+
+zero-revision : unwrap_or (revision_of (codes "0")) [] ≡ []
+unfolding revision_of after_epoch
+zero-revision = refl
+
+pub zero-order : (other : List ℕ) → version_cmp (codes "0") other ≡ ordering_then (nat_cmp 0 (epoch_of other))
+    (ordering_then (part_cmp (codes "0") (upstream_of other)) (part_cmp [] (unwrap_or (revision_of other) [])))
+zero-order other =
+    let order : ℕ → List ℕ → List ℕ → Ordering = λ e u r. ordering_then (nat_cmp e (epoch_of other))
+    (ordering_then (part_cmp u (upstream_of other)) (part_cmp r (unwrap_or (revision_of other) []))) in
+    version_cmp-parts (codes "0") other ∙ ap (λ (e : ℕ). order e (upstream_of (codes "0")) (unwrap_or (revision_of (codes "0")) [])) zero-epoch
+    ∙ ap (λ (u : List ℕ). order 0 u (unwrap_or (revision_of (codes "0")) [])) zero-upstream
+    ∙ ap (λ (r : List ℕ). order 0 (codes "0") r) zero-revision

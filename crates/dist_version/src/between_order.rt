@@ -129,4 +129,19 @@ impl Version {
         }
         compare_parts(&[], other.revision_to_compare())
     }
+
+    /// Compares the version `0` with another one. It takes no memory.
+    pub fn compare_zero(other: &Version) -> Ordering
+        ensures { result ≡ version_cmp (codes "0") other.now }
+    {
+        let order = 0u32.cmp(&other.epoch());
+        if order.is_ne() {
+            return order;
+        }
+        let order = compare_parts(b"0", other.upstream_to_compare());
+        if order.is_ne() {
+            return order;
+        }
+        compare_parts(&[], other.revision_to_compare())
+    }
 }

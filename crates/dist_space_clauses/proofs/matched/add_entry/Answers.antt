@@ -38,15 +38,15 @@ returns-then-matches_moved c =
     let s = c.args.space.now in
     let p : Package = c.package-package.result.now in
     let entry = c.get-entry.result.now in
-    let example : c.example-example.result.now ≡ example_at (member_classes s c.args.member) c.args.class = c.example-example.ensures
+    let example : c.example-example.result ≡ example_at (member_classes s c.args.member) c.args.class = c.example-example.ensures
     ∙ ap (λ (n : ℕ). example_at (cluster_classes s n) c.args.class) c.cluster_of.ensures in
-    let matches : MatchesByEntry s.repository.architecture c.args.atom.now (moved_entry p.version c.example-example.result.now entry) =
-    subst (λ (r : PackageList). MatchesByEntry r.architecture c.args.atom.now (moved_entry p.version c.example-example.result.now entry))
+    let matches : MatchesByEntry s.repository.architecture c.args.atom.now (moved_entry p.version c.example-example.result entry) =
+    subst (λ (r : PackageList). MatchesByEntry r.architecture c.args.atom.now (moved_entry p.version c.example-example.result entry))
     c.repo.ensures.value (c.if-matches_moved.ensures.0 refl) in
     on_ok_weaker c.add_variable.result
     (λ adds. gathers-one s c.args.variables.now.items c.add_variable.new.variables.items (Kept c.args.member c.args.class c.args.place)
     (IsMatchedBy s c.args.atom.now)
-    (kept-matched s c.args.atom.now c.args.member c.args.class c.args.place p entry c.example-example.result.now c.package-package.ensures.value
+    (kept-matched s c.args.atom.now c.args.member c.args.class c.args.place p entry c.example-example.result c.package-package.ensures.value
     c.get-entry.ensures example matches) adds)
     c.add_variable.ensures
 
@@ -55,11 +55,11 @@ returns c =
     let s = c.args.space.now in
     let p : Package = c.package-package.result.now in
     let entry = c.get-entry.result.now in
-    let example : c.example-example.result.now ≡ example_at (member_classes s c.args.member) c.args.class = c.example-example.ensures
+    let example : c.example-example.result ≡ example_at (member_classes s c.args.member) c.args.class = c.example-example.ensures
     ∙ ap (λ (n : ℕ). example_at (cluster_classes s n) c.args.class) c.cluster_of.ensures in
     gathers-not s c.args.variables.now.items (Kept c.args.member c.args.class c.args.place) (IsMatchedBy s c.args.atom.now)
     (λ matched. false≢true (c.if-matches_moved.ensures.1
-    (subst (λ (r : PackageList). MatchesByEntry r.architecture c.args.atom.now (moved_entry p.version c.example-example.result.now entry))
+    (subst (λ (r : PackageList). MatchesByEntry r.architecture c.args.atom.now (moved_entry p.version c.example-example.result entry))
     (sym c.repo.ensures.value)
-    (matched-kept s c.args.atom.now c.args.member c.args.class c.args.place p entry c.example-example.result.now c.package-package.ensures.value
+    (matched-kept s c.args.atom.now c.args.member c.args.class c.args.place p entry c.example-example.result c.package-package.ensures.value
     c.get-entry.ensures example matched))))

@@ -12,7 +12,7 @@ returns-then-meets_bound c =
     let s = c.args.space.now in
     on_ok_weaker c.add_variable.result
     (λ adds. gathers-one s c.args.variables.now.items c.add_variable.new.variables.items (Fresh c.args.name c.args.class) (IsMatchedBy s c.args.atom.now)
-    (fresh-matched s c.args.atom.now c.args.name c.args.class c.name_example.result.now c.requires.name c.name_example.ensures
+    (fresh-matched s c.args.atom.now c.args.name c.args.class c.name_example.result c.requires.name c.name_example.ensures
     (c.if-meets_bound.ensures.0 refl)) adds)
     c.add_variable.ensures
 
@@ -20,5 +20,5 @@ pub returns : goal.returns
 returns c =
     let s = c.args.space.now in
     gathers-not s c.args.variables.now.items (Fresh c.args.name c.args.class) (IsMatchedBy s c.args.atom.now)
-    (λ matched. false≢true (c.if-meets_bound.ensures.1 (matched-fresh s c.args.atom.now c.args.name c.args.class c.name_example.result.now c.requires.name
+    (λ matched. false≢true (c.if-meets_bound.ensures.1 (matched-fresh s c.args.atom.now c.args.name c.args.class c.name_example.result c.requires.name
     c.name_example.ensures matched)))
