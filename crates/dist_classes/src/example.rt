@@ -13,7 +13,7 @@ use std::cmp::Ordering;
 use std::marker::Model;
 
 /// The example of a class, seen as its text.
-#[derive(Clone, Copy, Debug)]
+#[derive(Debug, Drop)]
 pub struct Example<'a> {
     class: &'a Class,
 }

@@ -8,8 +8,8 @@ ghost use Rattle.dist_relation.specs.Faults.{allows_bar};
 use crate::copying::TryClone;
 use crate::name::Name;
 use dist_version::Version;
-use std::cmp::Ordering;
 use std::alloc::AllocError;
+use std::cmp::Ordering;
 
 /// How a version is compared with a bound: `<<`, `<=`, `=`, `>=`, `>>`.
 #[derive(Clone, Copy, Debug)]
