@@ -6,20 +6,20 @@
 #![tactic(auto)]
 
 mod bound_table;
+mod class_example;
 mod class_list;
 mod class_value;
 mod clusters;
 mod cut_finding;
-mod example;
 mod fresh_names;
 mod keys;
 mod laws;
 
+pub use class_example::{ClassExample, class_has_example, example};
 pub use class_list::{Classes, class_of};
 pub use class_value::{Class, print_class};
 pub use clusters::repository_clusters;
 pub use cut_finding::{CutFinder, classes_of, classes_of_new_name};
-pub use example::{Example, class_has_example, example};
 pub use fresh_names::{Names, new_names};
 pub use keys::NameKey;
 pub use laws::{

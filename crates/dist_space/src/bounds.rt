@@ -4,13 +4,13 @@ ghost use Rattle.dist_relation.specs.Satisfies.{Satisfies};
 ghost use Rattle.dist_repo.specs.Match.{MatchesByEntry};
 ghost use Rattle.dist_space.specs.Space.{MeetsBound, moved_entry, moved_version};
 
-use dist_classes::Example;
+use dist_classes::ClassExample;
 use dist_relation::{Atom, Provide, satisfies};
 use dist_repo::Repository;
 use dist_version::Version;
 
 /// Whether an example meets the bound of an atom, if it has one.
-pub fn meets_bound(atom: &Atom, example: &Example) -> bool
+pub fn meets_bound(atom: &Atom, example: &ClassExample) -> bool
     ensures { IsTrue result ↔ MeetsBound atom.now example.now }
 {
     match &atom.bound {
@@ -20,7 +20,7 @@ pub fn meets_bound(atom: &Atom, example: &Example) -> bool
 }
 
 /// Whether an entry, as a new version of its package has it, meets the bound of an atom.
-fn meets_moved(atom: &Atom, entry: &Provide, old: &Version, new: &Example) -> bool
+fn meets_moved(atom: &Atom, entry: &Provide, old: &Version, new: &ClassExample) -> bool
     ensures { IsTrue result ↔ IfSome atom.now.bound (λ bound. IsSomeAnd (moved_version old.now new.now entry.now.version) (λ version. Satisfies version bound)) }
 {
     let Some(bound) = &atom.bound else {
@@ -42,7 +42,7 @@ pub fn matches_moved(
     atom: &Atom,
     entry: &Provide,
     old: &Version,
-    new: &Example,
+    new: &ClassExample,
 ) -> bool
     ensures { IsTrue result ↔ MatchesByEntry repo.now.architecture atom.now (moved_entry old.now new.now entry.now) }
 {

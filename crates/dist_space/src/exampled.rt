@@ -3,7 +3,7 @@ ghost use Rattle.std.specs.Prelude.{◌≡◌, ◌<◌, ◌^◌, IfOk, length};
 ghost use Rattle.dist_space.specs.Kept.{AreExampled};
 ghost use Rattle.dist_space.specs.Space.{example_at};
 
-use dist_classes::{Classes, Example, class_has_example};
+use dist_classes::{ClassExample, Classes, class_has_example};
 use std::alloc::AllocError;
 use std::marker::Model;
 
@@ -64,10 +64,10 @@ impl Exampled {
     }
 
     /// The example of the class of a number.
-    pub(crate) fn example(&self, class: u32) -> Example<'_>
+    pub(crate) fn example(&self, class: u32) -> ClassExample<'_>
         requires { class < length self.now }
         ensures { result ≡ example_at self.now class }
     {
-        Example::of(self.classes.get(class as usize))
+        ClassExample::of(self.classes.get(class as usize))
     }
 }

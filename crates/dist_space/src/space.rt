@@ -18,7 +18,7 @@ use crate::numbering::number_meanings;
 use crate::places::Places;
 use crate::space_laws::spaces_are_one;
 use dist_base::Flat;
-use dist_classes::{Classes, Example, Names};
+use dist_classes::{ClassExample, Classes, Names};
 use dist_cluster::Clusters;
 use dist_relation::Name;
 use dist_repo::{Package, Repository};
@@ -256,7 +256,7 @@ impl Space {
     }
 
     /// The example of a class of a cluster.
-    pub fn example(&self, cluster: u32, class: u32) -> Example<'_>
+    pub fn example(&self, cluster: u32, class: u32) -> ClassExample<'_>
         requires { class < length (cluster_classes self.now cluster) }
         ensures { result ≡ example_at (cluster_classes self.now cluster) class }
     {
@@ -264,7 +264,7 @@ impl Space {
     }
 
     /// The example of a class of a new name.
-    pub fn name_example(&self, name: u32, class: u32) -> Example<'_>
+    pub fn name_example(&self, name: u32, class: u32) -> ClassExample<'_>
         requires { class < length (fresh_classes self.now name) }
         ensures { result ≡ example_at (fresh_classes self.now name) class }
     {

@@ -14,11 +14,11 @@ use std::marker::Model;
 
 /// The example of a class, seen as its text.
 #[derive(Debug, Drop)]
-pub struct Example<'a> {
+pub struct ClassExample<'a> {
     class: &'a Class,
 }
 
-impl<'a> Model for Example<'a> {
+impl<'a> Model for ClassExample<'a> {
     ghost use Rattle.std.specs.Prelude.{ℕ, List};
     ghost use Rattle.dist_classes.specs.ClassList.{example_text};
 
@@ -27,12 +27,12 @@ impl<'a> Model for Example<'a> {
     ghost view = { λ e. example_text e.class.now };
 }
 
-impl<'a> Example<'a> {
+impl<'a> ClassExample<'a> {
     /// The example of a class.
-    pub fn of(class: &'a Class) -> Example<'a>
+    pub fn of(class: &'a Class) -> ClassExample<'a>
         ensures { result ≡ example_text class.now }
     {
-        Example { class }
+        ClassExample { class }
     }
 
     /// Compares the example with a version.
@@ -108,5 +108,5 @@ pub fn example(alloc: Global, class: &Class) -> Result<Version, AllocError>
     ensures inside { IfOk result (λ version. IsOfClass class.now version) }
 {
     class_has_example(class);
-    Example::of(class).make(alloc)
+    ClassExample::of(class).make(alloc)
 }

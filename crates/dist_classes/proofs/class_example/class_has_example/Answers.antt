@@ -2,7 +2,7 @@ use Rattle.std.proofs.Common.{sym, subst}
 use Rattle.dist_classes.specs.ClassList.{HasExample, HasVersions}
 use Rattle.dist_classes.specs.declared.class_value.Class.TheVariants.{Point, Between, Above, Below, Any}
 use Rattle.dist_classes.proofs.ExampleLemmas.{IsDense, has-example}
-use Rattle.dist_classes.proofs.example.class_has_example.Goals as goal
+use Rattle.dist_classes.proofs.class_example.class_has_example.Goals as goal
 
 pub returns-in-Point : goal.returns-in-Point
 returns-in-Point c =
