@@ -5,6 +5,7 @@ pub mod ValuedLemmas
 pub mod LiteralLemmas
 pub mod OutcomeLemmas
 pub mod DenyLemmas
+pub mod FarLemmas
 pub mod FollowsLemmas
 pub mod Soundness
 pub mod GrowingLemmas

@@ -1,5 +1,5 @@
 -- How the cone of assumptions grows under the clauses, and which clauses are still to be looked at.
-use Rattle.std.specs.Prelude.{◌≡◌, ◌⊎◌, ℕ, Bool, false, ◌<◌, ◌≤◌, List, length, take, All, Contains}
+use Rattle.std.specs.Prelude.{◌≡◌, ◌⊎◌, ℕ, Bool, true, false, ◌<◌, ◌≤◌, List, length, take, All, Contains}
 use Rattle.dist_clause.specs.Formula.{Literal}
 use Rattle.dist_clause.specs.ClauseList.{clause_at}
 use Rattle.dist_derive.specs.ContainmentPrivate.{ContainsAll}
@@ -38,3 +38,8 @@ pub record Reaches (clauses : List (List Literal)) (old new : VariableList) : Ty
 abbrev pub AreLinesWithin : List (List Literal) → List (List Literal) → List Literal → ℕ → Type 0
 AreLinesWithin inputs clauses assumptions last = (number : ℕ) → last < number → number ≤ length clauses
     → IsWithinCone inputs assumptions (clause_at clauses number)
+
+-- each closed set that has the members has all variables of the clauses with numbers above the last one
+abbrev pub AreReachedLines : List (List Literal) → List (List Literal) → List ℕ → ℕ → Type 0
+AreReachedLines inputs clauses members last = (number : ℕ) → last < number → number ≤ length clauses
+    → (has : ℕ → Bool) → HasAll has members → IsClosedUnder has inputs → All (λ l. has l.variable ≡ true) (clause_at clauses number)

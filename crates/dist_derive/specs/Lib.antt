@@ -14,6 +14,7 @@ pub mod AssumePrivate
 pub mod WatchesPrivate
 pub mod LogPrivate
 pub mod ConePrivate
+pub mod FarPrivate
 pub mod Scratch
 pub mod DenialsPrivate
 pub mod RowsPrivate

@@ -3,24 +3,29 @@
 //! The members are a queue: each is taken once, with the clauses in which it stands negated. A clause asks for nothing until
 //! all its negated variables are in, so what the cone doesn't touch isn't looked at. Clauses that are not in the index are
 //! walked. Lines are mostly on variables that the assumptions reach soon, so these are looked for before the whole cone is
-//! marked.
+//! marked. What is reached far from the assumptions is kept (`far.rt`), and the next question begins there where it leads to it.
 
-ghost use Rattle.std.specs.Prelude.{◌≡◌, ◌<◌, ◌≤◌, ◌↔◌, ℕ, false, [], length, take, All, Contains, IsTrue};
-ghost use Rattle.dist_clause.specs.Formula.{IsClauseOver};
+ghost use Rattle.std.specs.Prelude.{◌≡◌, ◌<◌, ◌≤◌, ◌↔◌, ◌⊎◌, ℕ, List, true, false, [], length, take, All, Contains, IsTrue};
+ghost use Rattle.dist_clause.specs.Formula.{IsClauseOver, Literal};
 ghost use Rattle.dist_derive.specs.ClauseLog.{inputs_of};
 ghost use Rattle.dist_clause.specs.ClauseList.{clause_at};
 ghost use Rattle.dist_derive.specs.Cone.{InCone};
 ghost use Rattle.dist_derive.specs.Marking.{Grows, IsClosedAt};
 ghost use Rattle.dist_derive.specs.OccurrencesPrivate.{Lists, IsIndexOf};
-ghost use Rattle.dist_derive.specs.ConePrivate.{AreLinesWithin, WaitsIn, AllWaitIn, Reaches};
+ghost use Rattle.dist_derive.specs.ConePrivate.{AreLinesWithin, AreReachedLines, WaitsIn, AllWaitIn, Reaches};
+ghost use Rattle.dist_derive.specs.FarPrivate.{IsFar, IsFarIfMade};
 
 use crate::Log;
+use crate::far::Far;
 use crate::occurrences::{Occurrences, POSITIVE};
 use crate::variable_set::VariableSet;
 use dist_clause::Lit;
 
 /// So many members of a cone are taken before the lines are looked at. It is few, since one member may have many clauses.
 const FIRST_MEMBERS: usize = 1;
+
+/// What is reached behind so many members of a cone is far.
+const NEAR: usize = 256;
 
 impl Log {
     /// Makes a set the cone of assumptions over the input clauses. The set's own calls give its variables, each once.
@@ -59,18 +64,21 @@ impl Log {
     /// cone as they need.
     pub(crate) fn reaches_lines(
         &self,
+        far: &mut Far,
         cone: &mut VariableSet,
         assumptions: &[Lit],
         last: u32,
     ) -> bool
+        requires far { IsFarIfMade (inputs_of self.now) self.now.variables far.old }
         requires empty { cone.old ≡ record { variables = self.now.variables; members = [] } }
         requires assumptions { All (λ l. l.variable ≤ self.now.variables) assumptions.now }
         requires last { last ≤ length self.now.clauses }
         ensures answer { IsTrue result ↔ AreLinesWithin (inputs_of self.now) self.now.clauses assumptions.now last }
+        ensures far { IsFarIfMade (inputs_of self.now) self.now.variables far.new }
         ensures same_variables { cone.new.variables ≡ cone.old.variables }
     {
         let inputs = self.inputs();
-        if self.finds_lines(cone, assumptions, last, inputs) {
+        if self.finds_lines(far, cone, assumptions, last, inputs) {
             return true;
         }
         cone.clear();
@@ -82,16 +90,19 @@ impl Log {
     /// they are. Clauses without a negative literal and those that are not in the index are left out.
     fn finds_lines(
         &self,
+        far: &mut Far,
         cone: &mut VariableSet,
         assumptions: &[Lit],
         last: u32,
         inputs: u32,
     ) -> bool
+        requires far { IsFarIfMade (take inputs self.now.clauses) self.now.variables far.old }
         requires empty { cone.old ≡ record { variables = self.now.variables; members = [] } }
         requires assumptions { All (λ l. l.variable ≤ self.now.variables) assumptions.now }
         requires last { last ≤ length self.now.clauses }
         requires inputs { inputs ≤ length self.now.clauses }
         ensures found { IsTrue result → AreLinesWithin (take inputs self.now.clauses) self.now.clauses assumptions.now last }
+        ensures far { IsFarIfMade (take inputs self.now.clauses) self.now.variables far.new }
         ensures same_variables { cone.new.variables ≡ cone.old.variables }
     {
         cone.include_all(assumptions);
@@ -104,8 +115,95 @@ impl Log {
                 return true;
             }
             done = most;
+            if done > NEAR {
+                return self.finds_far_lines(far, cone, done, last, inputs);
+            }
         }
         false
+    }
+
+    /// Looks for these lines in what the members of the cone reach that were not taken, from the place `done` on: first behind the
+    /// starts that were kept and are members, then behind all of these.
+    fn finds_far_lines(
+        &self,
+        far: &mut Far,
+        cone: &VariableSet,
+        done: usize,
+        last: u32,
+        inputs: u32,
+    ) -> bool
+        requires far { IsFarIfMade (take inputs self.now.clauses) self.now.variables far.old }
+        requires same_variables { cone.now.variables ≡ self.now.variables }
+        requires last { last ≤ length self.now.clauses }
+        requires inputs { inputs ≤ length self.now.clauses }
+        ensures found { IsTrue result → AreReachedLines (take inputs self.now.clauses) self.now.clauses cone.now.members last }
+        ensures far { IsFarIfMade (take inputs self.now.clauses) self.now.variables far.new }
+    {
+        if !self.has_far(far) {
+            return false;
+        }
+        far.narrow(self.alloc, cone);
+        if self.finds_behind(far, cone, last, inputs) {
+            return true;
+        }
+        far.begin(cone, cone.members_from(done));
+        self.finds_behind(far, cone, last, inputs)
+    }
+
+    /// Looks for these lines in the cone and in what the starts reach, until they are found or all of that is marked.
+    fn finds_behind(&self, far: &mut Far, cone: &VariableSet, last: u32, inputs: u32) -> bool
+        requires far { IsFar (take inputs self.now.clauses) self.now.variables far.old }
+        requires same_variables { cone.now.variables ≡ self.now.variables }
+        requires within { All (Contains cone.now.members) far.old.starts }
+        requires last { last ≤ length self.now.clauses }
+        requires inputs { inputs ≤ length self.now.clauses }
+        ensures found { IsTrue result → AreReachedLines (take inputs self.now.clauses) self.now.clauses cone.now.members last }
+        ensures far { IsFar (take inputs self.now.clauses) self.now.variables far.new }
+    {
+        loop {
+            if self.are_in_either(cone, &far.set, last) {
+                return true;
+            }
+            if far.taken >= far.set.len() {
+                return false;
+            }
+            let most = far.taken.saturating_mul(2).saturating_add(FIRST_MEMBERS);
+            self.take_some(&mut far.set, far.taken, most, inputs);
+            far.taken = most;
+        }
+    }
+
+    /// Whether each variable of the clauses with numbers above `last` is in one of two sets.
+    fn are_in_either(&self, cone: &VariableSet, far: &VariableSet, last: u32) -> bool
+        requires same_variables { cone.now.variables ≡ self.now.variables }
+        requires far_variables { far.now.variables ≡ self.now.variables }
+        requires last { last ≤ length self.now.clauses }
+        ensures { IsTrue result → (number : ℕ) → last < number → number ≤ length self.now.clauses
+            → All (λ l. Contains cone.now.members l.variable ⊎ Contains far.now.members l.variable) (clause_at self.now.clauses number) }
+    {
+        for before in last..self.len() {
+            if !cone.has_clause_or(far, self.clause(before + 1)) {
+                return false;
+            }
+        }
+        true
+    }
+
+    /// Makes what lies far, where there is none yet; answers whether it is there.
+    fn has_far(&self, far: &mut Far) -> bool
+        ensures far { (clauses : List (List Literal)) → IsFarIfMade clauses self.now.variables far.old → IsFarIfMade clauses self.now.variables far.new }
+        ensures made { IsTrue result → far.new.is_made ≡ true }
+    {
+        if far.is_made {
+            return true;
+        }
+        match Far::make(self.alloc, self.variables()) {
+            Ok(made) => {
+                far.put(made);
+                true
+            }
+            Err(_) => false,
+        }
     }
 
     /// Takes the members from the place `first` on, and before another, with the clauses in which they stand negated.

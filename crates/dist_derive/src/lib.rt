@@ -12,6 +12,7 @@
 mod cone;
 mod conflicts;
 mod denials;
+mod far;
 mod follows;
 mod inputs;
 mod laws;

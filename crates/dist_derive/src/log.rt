@@ -9,6 +9,7 @@ ghost use Rattle.dist_derive.specs.Follows.{IsNumberOf};
 ghost use Rattle.dist_derive.specs.OccurrencesPrivate.{IsIndexOf};
 ghost use Rattle.dist_derive.specs.LogPrivate.{IsIndexed};
 
+use crate::far::Far;
 use crate::inputs::Inputs;
 use crate::occurrences::{Link, Occurrences, code_of};
 use crate::variable_set::VariableSet;
@@ -37,6 +38,8 @@ pub struct Log {
     occurrences: Occurrences,
     /// What the last test of newness has left.
     pub(crate) watching: Watching,
+    /// What lies far from the assumptions of the questions before.
+    pub(crate) far: Far,
     pub(crate) alloc: Global,
 }
 
@@ -48,7 +51,7 @@ impl Model for Log {
 
     ghost view = { λ a. joined a.inputs a.lines };
 
-    ghost invariant = { λ a. IsKept a.inputs a.lines a.occurrences a.watching };
+    ghost invariant = { λ a. IsKept a.inputs a.lines a.occurrences a.watching a.far };
 }
 
 impl Log {
@@ -70,6 +73,7 @@ impl Log {
             lines,
             occurrences: Occurrences::new(alloc),
             watching: Watching::empty(alloc),
+            far: Far::empty(alloc),
             alloc,
         }
     }

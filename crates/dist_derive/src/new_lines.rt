@@ -28,7 +28,9 @@ impl Log {
         if last < self.inputs() {
             return self.each_is_new(scratch, assumptions, last);
         }
-        let reached = self.reaches_lines(&mut scratch.cone, assumptions, last);
+        let mut far = self.far.take(self.alloc);
+        let reached = self.reaches_lines(&mut far, &mut scratch.cone, assumptions, last);
+        self.far.put(far);
         scratch.cone.clear();
         if !reached {
             return false;

@@ -1,6 +1,6 @@
 //! Sets of variables that are emptied in time proportional to their members.
 
-ghost use Rattle.std.specs.Prelude.{◌≡◌, ◌≢◌, ◌<◌, ◌≤◌, ◌↔◌, true, false, [], ◌∷◌, ◌++◌, ℕ, Bool, length, replicate, take, ◌-◌, All, AllPairs, Contains, IfOk, IsTrue, slice_index};
+ghost use Rattle.std.specs.Prelude.{◌≡◌, ◌≢◌, ◌<◌, ◌≤◌, ◌↔◌, ◌⊎◌, true, false, [], ◌∷◌, ◌++◌, ℕ, Bool, length, replicate, take, ◌-◌, All, AllPairs, Contains, IfOk, IsTrue, OnOk, slice_index};
 ghost use Rattle.dist_clause.specs.Formula.{value_of, IsTrueLiteral, MakesTrue};
 ghost use Rattle.dist_derive.specs.Cone.{IsClosedUnder};
 ghost use Rattle.dist_derive.specs.VariableSet.{GivesTrue};
@@ -68,6 +68,16 @@ impl VariableSet {
         &self.members
     }
 
+    /// The members from a place on.
+    pub(crate) fn members_from(&self, place: usize) -> &[u32]
+        ensures { All (λ v. (1 ≤ v) × (v ≤ self.now.variables)) result.now }
+    {
+        match self.members().get(place..) {
+            Some(members) => members,
+            None => &[],
+        }
+    }
+
     /// How many members there are.
     pub(crate) fn len(&self) -> usize
         ensures value { result ≡ length self.now.members }
@@ -128,6 +138,58 @@ impl VariableSet {
         grown
     }
 
+    /// Whether some variables are all in.
+    pub(crate) fn has_each(&self, variables: &[u32]) -> bool
+        requires { All (λ v. (1 ≤ v) × (v ≤ self.now.variables)) variables.now }
+        ensures { IsTrue result → All (Contains self.now.members) variables.now }
+    {
+        for variable in variables {
+            if !self.contains(*variable) {
+                return false;
+            }
+        }
+        true
+    }
+
+    /// Adds those of some variables that are in to an empty list. After want of memory it is empty.
+    pub(crate) fn find_common(&self, variables: &[u32], common: &mut Vec<u32>)
+        requires in_range { All (λ v. (1 ≤ v) × (v ≤ self.now.variables)) variables.now }
+        requires none { common.old.items ≡ [] }
+        ensures within { All (Contains self.now.members) common.new.items }
+        ensures in_range { All (λ v. (1 ≤ v) × (v ≤ self.now.variables)) common.new.items }
+    {
+        if self.add_common(variables, common).is_err() {
+            common.clear();
+        }
+    }
+
+    /// Adds those of some variables that are in to a list of such ones.
+    fn add_common(&self, variables: &[u32], common: &mut Vec<u32>) -> Result<(), AllocError>
+        requires in_range { All (λ v. (1 ≤ v) × (v ≤ self.now.variables)) variables.now }
+        requires none { common.old.items ≡ [] }
+        ensures within { OnOk result (All (Contains self.now.members) common.new.items) }
+        ensures in_range { OnOk result (All (λ v. (1 ≤ v) × (v ≤ self.now.variables)) common.new.items) }
+    {
+        for variable in variables {
+            if !self.contains(*variable) {
+                continue;
+            }
+            common.push(*variable)?;
+        }
+        Ok(())
+    }
+
+    /// Puts some variables in.
+    pub(crate) fn include_each(&mut self, variables: &[u32])
+        requires { All (λ v. (1 ≤ v) × (v ≤ self.old.variables)) variables.now }
+        ensures same_variables { self.new.variables ≡ self.old.variables }
+        ensures least { (has : ℕ → Bool) → HasAll has self.old.members → HasAll has variables.now → HasAll has self.new.members }
+    {
+        for variable in variables {
+            self.include(*variable);
+        }
+    }
+
     /// Where the variables of all negative literals of a clause are in, puts all its variables in, and answers whether
     /// one was not in before.
     pub(crate) fn close_at(&mut self, clause: &[Lit]) -> bool
@@ -161,6 +223,33 @@ impl VariableSet {
     {
         for literal in clause {
             if !self.contains(literal.variable()) {
+                return false;
+            }
+        }
+        true
+    }
+
+    /// Whether a variable is in this set or in another one.
+    fn has_or(&self, other: &VariableSet, variable: u32) -> bool
+        requires same_variables { other.now.variables ≡ self.now.variables }
+        requires from_one { 1 ≤ variable }
+        requires in_range { variable ≤ self.now.variables }
+        ensures { IsTrue result → Contains self.now.members variable ⊎ Contains other.now.members variable }
+    {
+        if self.contains(variable) {
+            return true;
+        }
+        other.contains(variable)
+    }
+
+    /// Whether each variable of a clause is in this set or in another one.
+    pub(crate) fn has_clause_or(&self, other: &VariableSet, clause: &[Lit]) -> bool
+        requires same_variables { other.now.variables ≡ self.now.variables }
+        requires over { All (λ l. l.variable ≤ self.now.variables) clause.now }
+        ensures { IsTrue result → All (λ l. Contains self.now.members l.variable ⊎ Contains other.now.members l.variable) clause.now }
+    {
+        for literal in clause {
+            if !self.has_or(other, literal.variable()) {
                 return false;
             }
         }

@@ -12,9 +12,10 @@ invariant_of-self c =
     let lines = c.self.inside.lines in
     let number : c.len.result + c.len-in-Ok.result ≡ length c.self.inside.inputs.clauses + length lines.clauses + 1 =
     omega (arith, ap (λ (s : ClauseList). length s.clauses) c.in-Ok.ensures.ok, length_push lines.clauses c.args.clause.now) in
-    subst (λ (more : ClauseList). IsKept inputs more c.add_next.new.self c.self.inside.watching) (sym c.in-Ok.ensures.ok)
+    subst (λ (more : ClauseList). IsKept inputs more c.add_next.new.self c.self.inside.watching c.self.inside.far) (sym c.in-Ok.ensures.ok)
     (record {
       indexed = IsIndexed-line c.self.inside.inputs lines c.self.inside.occurrences c.add_next.new.self c.args.clause.now (c.len.result + c.len-in-Ok.result)
           c.self.invariant.indexed number c.add_next.ensures;
       standing = standing_appended inputs.clauses lines.clauses inputs.variables c.args.clause.now c.self.inside.watching c.self.invariant.standing;
+      is_far = c.self.invariant.is_far;
     })
