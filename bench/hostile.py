@@ -211,6 +211,20 @@ def reaching_a_chain(n, essential=False):
     return packages, f"distfuture-certificate 1 strong {mode} 1 {number} {number} {clauses}\n" + lines
 
 
+def behind_a_chain(n):
+    """A chain of n packages, whose last one leads to n / 4 others, each of which leads to one package in two ways; as many questions, each on a package of
+    its own that leads to the chain, with a new line on one of these."""
+    groups = n // 4
+    packages, lines = stanza("l000000", more="Depends: " + ", ".join(f"g{k:06}-d" for k in range(groups)) + "\n"), ""
+    packages += "".join(stanza(f"l{k:06}", more=f"Depends: l{k - 1:06}\n") for k in range(1, n))
+    for k in range(groups):
+        name = f"g{k:06}"
+        packages += stanza(f"{name}-d", more=f"Depends: {name}-x | {name}-y\n") + stanza(f"{name}-z") + stanza(f"p{k:06}", more=f"Depends: l{n - 1:06}\n")
+        packages += "".join(stanza(f"{name}-{letter}", more=f"Depends: {name}-z\n") for letter in "xy")
+        lines += f"q {4 * groups + n + k + 1}\nd {4 * k + 4} -{4 * k + 1} 0 {3 * k + 2} {3 * k + 3} {3 * k + 1}\nu\n"
+    return packages, f"distfuture-certificate 1 strong plain 1 {5 * groups + n} {5 * groups + n} {5 * groups + n - 1}\n" + lines
+
+
 def learned_again(n):
     """A package with two needs that are met in two ways each: one way fails at once, and another by seven pigeons in six holes, with so many pairs beside it."""
     packages = stanza("0p", more="Depends: a | zok, b | zhard\n") + stanza("a", more="Depends: aa, ab\n") + stanza("aa", more="Conflicts: ab\n") + stanza("ab") + stanza("b")
@@ -341,6 +355,7 @@ ROWS = {
     "so many uploads to one package of as many entries, each with the last of them": (80_000, lambda n: followed(
         stanza("p", more="Provides: " + ", ".join(f"e{k}" for k in range(n // 2)) + "\n"), [("p", f"Provides: e{n // 2 - 1}\n")] * (n // 2))),
     "so many questions that reach one chain, each with a new line": (20_000, lambda n: checked(*reaching_a_chain(n))),
+    "so many questions that reach one chain, each with a new line behind it": (20_000, lambda n: checked(*behind_a_chain(n))),
     "so many questions beside as many essential packages, each with a new line": (20_000, lambda n: checked(*reaching_a_chain(n, True))),
     "a line of one literal that two questions about so many pairs need": (10_000, lambda n: strong(learned_again(n))),
     "so many packages that need one in conflict with as many": (10_000, lambda n: strong(hub(n, "Conflicts: v\n", loose(n, "Provides: v\n")))),
