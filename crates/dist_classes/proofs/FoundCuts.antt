@@ -1,22 +1,28 @@
 -- What is found of versions in bounds: on the names of a package, of the members of a cluster, and the classes of them.
 use Rattle.std.proofs.Common.{◌≡◌, ◌⊎◌, ◌↔◌, ℕ, ◌+◌, ◌≤◌, List, [], ◌∷◌, ◌++◌, length, take, Option, Some, sym, subst, ◌∙◌, inl, inr, refl, arith, slice_get}
-use Rattle.std.proofs.Common.{append-nil, append_assoc}
+use Rattle.std.proofs.Common.{◌≢◌, Equal, Greater, Less, Ordering, ap, append-nil, append_assoc, nat_cmp}
 use Rattle.std.specs.Prelude.{Any, Contains, IsPermutation, IsSomeAnd}
+use Rattle.std.specs.Cmp.Lexicographic.{slice_cmp}
 use Rattle.std.specs.List.Sorted.{IsSorted}
-use Rattle.std.proofs.lemmas.List.Elements.{Contains-append_left, Contains-append_right, Contains-append_cases, Contains-push}
+use Rattle.std.specs.Ordering.{ordering_reverse}
+use Rattle.std.proofs.lemmas.Cmp.{alike_right, nat_list_cmp_total}
+use Rattle.std.proofs.lemmas.List.Elements.{All-contains, Contains-append_left, Contains-push}
 use Rattle.std.proofs.lemmas.List.Elements.{Contains-push_cases}
 use Rattle.std.proofs.lemmas.List.Sorted.{Contains-permutation, IsPermutation-sym}
+use Rattle.dist_base.specs.ListLaws.{all-contained, any-contained, any-more, any-there}
+use Rattle.dist_version.specs.Order.{version_cmp, IsBelow}
 use Rattle.dist_relation.specs.declared.atom.Provide.{Provide}
 use Rattle.dist_repo.specs.PackageList.{PackageList, IsPackageAnd}
 use Rattle.dist_repo.specs.declared.package.Package.{Package}
 use Rattle.dist_classes.specs.Answers.{AreClassesOf, AreClassesOfName}
 use Rattle.dist_classes.specs.Atoms.{IsBoundOn}
 use Rattle.dist_classes.specs.ClassList.{classes_above, classes_of_all}
-use Rattle.dist_classes.specs.Cuts.{IsClusterCut, IsNameCut, IsNameOfCluster}
+use Rattle.dist_classes.specs.Cuts.{AreCuts, IsClusterCut, IsLeastText, IsNameCut, IsNameOfCluster}
 use Rattle.dist_classes.specs.NewVersion.{IsMovedName, IsMoving}
 use Rattle.dist_classes.specs.SortedPrivate.{cuts_after, cuts_of, text_cmp}
-use Rattle.dist_classes.specs.Table.{Adds, Entries, IsTableOf, versions_at}
+use Rattle.dist_classes.specs.Table.{Adds, AddsLeast, Entries, HasBounds, HasLess}
 use Rattle.dist_classes.specs.declared.class_value.Class.{Class}
+use Rattle.dist_classes.specs.VersionOrderLaws.{alike-left}
 use Rattle.dist_classes.proofs.SortedLemmas.{cuts-above, cuts-all, cuts-rise, ordered-from_sorted}
 use Rattle.dist_classes.proofs.TableLemmas.{any-none, any-take, any-whole}
 
@@ -45,9 +51,6 @@ adds-nothing a P none v = ((λ there. inl there), λ either. elim either [ inl h
 
 -- ---- versions in bounds on names
 
-abbrev IsOn : PackageList → (List ℕ → Type 0) → List ℕ → Type 0
-IsOn r Allows v = IsBoundOn r Allows v
-
 on-weaker : (r : PackageList) (A B : List ℕ → Type 0) → ((n : List ℕ) → A n → B n) → (v : List ℕ) → IsBoundOn r A v → IsBoundOn r B v
 on-weaker r A B more v on = record { atom = on.atom; is_atom = on.is_atom; allowed = more on.atom.name on.allowed; bound = on.bound }
 
@@ -66,28 +69,63 @@ on-either r A B v = (
   ],
 )
 
--- the versions on some names, and then those on others
-on-more : (r : PackageList) (a b c : List (List ℕ)) (A B C : List ℕ → Type 0) → ((n : List ℕ) → (A n ⊎ B n) ↔ C n) → Adds a b (IsBoundOn r A)
-    → Adds b c (IsBoundOn r B) → Adds a c (IsBoundOn r C)
-on-more r a b c A B C same first second =
-    let Both : List ℕ → Type 0 = λ n. A n ⊎ B n in
-    adds-iff a c (IsBoundOn r Both) (IsBoundOn r C) (on-iff r Both C same)
-    (adds-iff a c (λ v. IsBoundOn r A v ⊎ IsBoundOn r B v) (IsBoundOn r Both) (on-either r A B)
-    (adds-both a b c (IsBoundOn r A) (IsBoundOn r B) first second))
+-- ---- versions of which each is there in a least text
 
-pub adds-table : (r : PackageList) (table : Entries) (name : List ℕ) (a b : List (List ℕ)) → IsTableOf r table → b ≡ a ++ versions_at table name
-    → Adds a b (IsBoundOn r (λ other. other ≡ name))
-adds-table r table name a b tabled is v =
-    let In : List (List ℕ) → Type 0 = λ xs. Contains xs v in (
-      (λ there. elim (Contains-append_cases a (versions_at table name) v (subst In is there)) [
-        | inl h ↦ inl h
-        | inr h ↦ inr ((tabled name v).0 h)
-      ]),
-      λ either. subst In (sym is) (elim either [
-        | inl h ↦ Contains-append_left a (versions_at table name) v h
-        | inr h ↦ Contains-append_right a (versions_at table name) v ((tabled name v).1 h)
-      ]),
-    )
+pub least-iff : (a b : List (List ℕ)) (P Q : List ℕ → Type 0) → ((v : List ℕ) → P v ↔ Q v) → AddsLeast a b P → AddsLeast a b Q
+least-iff a b P Q same adds = record {
+  there = λ v inside. elim (adds.there v inside) [ inl h ↦ inl h | inr h ↦ inr ((same v).0 h) ];
+  kept = adds.kept;
+  least = λ v has. adds.least v ((same v).1 has);
+}
+
+least-both : (a b c : List (List ℕ)) (P Q : List ℕ → Type 0) → AddsLeast a b P → AddsLeast b c Q → AddsLeast a c (λ v. P v ⊎ Q v)
+least-both a b c P Q first second = record {
+  there = λ v inside. elim (second.there v inside) [
+    | inl h ↦ elim (first.there v h) [ inl g ↦ inl g | inr g ↦ inr (inl g) ]
+    | inr h ↦ inr (inr h)
+  ];
+  kept = λ v inside. second.kept v (first.kept v inside);
+  least = λ v either. elim either [
+    | inl h ↦
+        let any = first.least v h in
+        any-contained (HasLess v) c any.1 (second.kept any.1 (any-there (HasLess v) b any)) any.4
+    | inr h ↦ second.least v h
+  ];
+}
+
+least-nothing : (a : List (List ℕ)) (P : List ℕ → Type 0) → ((v : List ℕ) → ¬ P v) → AddsLeast a a P
+least-nothing a P none = record {
+  there = λ v inside. inl inside;
+  kept = λ v inside. inside;
+  least = λ v has. absurd (none v has);
+}
+
+-- the versions above a top, on some names
+abbrev pub IsOnAbove : PackageList → List ℕ → (List ℕ → Type 0) → List ℕ → Type 0
+IsOnAbove r top Allows v = IsBelow top v × IsBoundOn r Allows v
+
+pub table-all : (r : PackageList) (table : Entries) (name : List ℕ) (a b : List (List ℕ)) → HasBounds r table
+    → AddsLeast a b (λ v. Contains table (name, v)) → AddsLeast a b (IsBoundOn r (λ other. other ≡ name))
+table-all r table name a b tabled adds =
+    least-iff a b (λ v. Contains table (name, v)) (IsBoundOn r (λ other. other ≡ name)) (λ v. tabled name v) adds
+
+pub table-above : (r : PackageList) (table : Entries) (name top : List ℕ) (a b : List (List ℕ)) → HasBounds r table
+    → AddsLeast a b (λ v. IsBelow top v × Contains table (name, v)) → AddsLeast a b (IsOnAbove r top (λ other. other ≡ name))
+table-above r table name top a b tabled adds =
+    least-iff a b (λ v. IsBelow top v × Contains table (name, v)) (IsOnAbove r top (λ other. other ≡ name))
+    (λ v. ((λ both. (both.0, (tabled name v).0 both.1)), λ both. (both.0, (tabled name v).1 both.1))) adds
+
+-- the versions on some names, and then those on others
+on-more : (r : PackageList) (top : List ℕ) (a b c : List (List ℕ)) (A B C : List ℕ → Type 0) → ((n : List ℕ) → (A n ⊎ B n) ↔ C n)
+    → AddsLeast a b (IsOnAbove r top A) → AddsLeast b c (IsOnAbove r top B) → AddsLeast a c (IsOnAbove r top C)
+on-more r top a b c A B C same first second =
+    let Both : List ℕ → Type 0 = λ n. A n ⊎ B n in
+    least-iff a c (λ v. IsOnAbove r top A v ⊎ IsOnAbove r top B v) (IsOnAbove r top C) (λ v.
+    let either = on-either r A B v in
+    let turn = on-iff r Both C same v in (
+      (λ h. elim h [ inl g ↦ (g.0, turn.0 (either.0 (inl g.1))) | inr g ↦ (g.0, turn.0 (either.0 (inr g.1))) ]),
+      λ g. elim (either.1 (turn.1 g.1)) [ inl h ↦ inl (g.0, h) | inr h ↦ inr (g.0, h) ],
+    )) (least-both a b c (IsOnAbove r top A) (IsOnAbove r top B) first second)
 
 -- ---- the names of a package
 
@@ -156,25 +194,25 @@ member-named r number p a b at adds =
 
 -- ---- the versions in bounds on names, one after another
 
--- the versions on the names before those that are left
-pub record AreCollected (r : PackageList) (keys rest : List (List ℕ)) (a b : List (List ℕ)) : Type 0 where
+-- the versions above a top on the names before those that are left
+pub record AreCollected (r : PackageList) (top : List ℕ) (keys rest : List (List ℕ)) (a b : List (List ℕ)) : Type 0 where
   pub done : List (List ℕ)
   pub split : done ++ rest ≡ keys
-  pub adds : Adds a b (IsBoundOn r (Contains done))
+  pub adds : AddsLeast a b (IsOnAbove r top (Contains done))
 
-pub collected-none : (r : PackageList) (keys a : List (List ℕ)) → AreCollected r keys keys a a
-collected-none r keys a = record {
+pub collected-none : (r : PackageList) (top : List ℕ) (keys a : List (List ℕ)) → AreCollected r top keys keys a a
+collected-none r top keys a = record {
   done = [];
   split = refl;
-  adds = adds-nothing a (IsBoundOn r (Contains [])) (λ v on. let there = on.allowed in omega (arith, there.1));
+  adds = least-nothing a (IsOnAbove r top (Contains [])) (λ v on. let there = on.1.allowed in omega (arith, there.1));
 }
 
-pub collected-more : (r : PackageList) (keys rest : List (List ℕ)) (name : List ℕ) (a b c : List (List ℕ)) → AreCollected r keys (name ∷ rest) a b
-    → Adds b c (IsBoundOn r (λ other. other ≡ name)) → AreCollected r keys rest a c
-collected-more r keys rest name a b c of more = record {
+pub collected-more : (r : PackageList) (top : List ℕ) (keys rest : List (List ℕ)) (name : List ℕ) (a b c : List (List ℕ))
+    → AreCollected r top keys (name ∷ rest) a b → AddsLeast b c (IsOnAbove r top (λ other. other ≡ name)) → AreCollected r top keys rest a c
+collected-more r top keys rest name a b c of more = record {
   done = of.done ++ name ∷ [];
   split = append_assoc of.done (name ∷ []) rest ∙ of.split;
-  adds = on-more r a b c (Contains of.done) (λ other. other ≡ name) (Contains (of.done ++ name ∷ [])) (λ n. (
+  adds = on-more r top a b c (Contains of.done) (λ other. other ≡ name) (Contains (of.done ++ name ∷ [])) (λ n. (
     (λ either. elim either [
       | inl h ↦ Contains-append_left of.done (name ∷ []) n h
       | inr h ↦ subst (λ (x : List ℕ). Contains (of.done ++ name ∷ []) x) (sym h) (Contains-push of.done name)
@@ -183,48 +221,90 @@ collected-more r keys rest name a b c of more = record {
   )) of.adds more;
 }
 
-pub collected-all : (r : PackageList) (keys a b : List (List ℕ)) → AreCollected r keys [] a b → Adds a b (IsBoundOn r (Contains keys))
-collected-all r keys a b of =
+pub collected-all : (r : PackageList) (top : List ℕ) (keys a b : List (List ℕ)) → AreCollected r top keys [] a b
+    → AddsLeast a b (IsOnAbove r top (Contains keys))
+collected-all r top keys a b of =
     let whole : of.done ≡ keys = sym (append-nil of.done) ∙ of.split in
-    subst (λ (xs : List (List ℕ)). Adds a b (IsBoundOn r (Contains xs))) whole of.adds
+    subst (λ (xs : List (List ℕ)). AddsLeast a b (IsOnAbove r top (Contains xs))) whole of.adds
 
 -- the names were those of a cluster
-pub members-all : (r : PackageList) (members : List ℕ) (keys a b : List (List ℕ)) → Adds [] keys (IsNameOfCluster r members)
-    → Adds a b (IsBoundOn r (Contains keys)) → Adds a b (IsBoundOn r (IsNameOfCluster r members))
-members-all r members keys a b names adds =
-    adds-iff a b (IsBoundOn r (Contains keys)) (IsBoundOn r (IsNameOfCluster r members))
-    (on-iff r (Contains keys) (IsNameOfCluster r members) (λ n. (
+pub members-all : (r : PackageList) (members top : List ℕ) (keys a b : List (List ℕ)) → Adds [] keys (IsNameOfCluster r members)
+    → AddsLeast a b (IsOnAbove r top (Contains keys)) → AddsLeast a b (IsClusterCut r members top)
+members-all r members top keys a b names adds =
+    let turn = on-iff r (Contains keys) (IsNameOfCluster r members) (λ n. (
       (λ there. elim ((names n).0 there) [ inl h ↦ absurd (omega (arith, h.1)) | inr h ↦ h ]),
       λ named. (names n).1 (inr named),
-    ))) adds
+    )) in
+    least-iff a b (IsOnAbove r top (Contains keys)) (IsClusterCut r members top)
+    (λ v. ((λ on. (on.0, (turn v).0 on.1)), λ on. (on.0, (turn v).1 on.1))) adds
 
 -- ---- the classes
 
-found-iff : (P : List ℕ → Type 0) (found sorted : List (List ℕ)) → Adds [] found P → IsPermutation found sorted → (v : List ℕ) → P v ↔ Contains sorted v
-found-iff P found sorted adds permuted v = (
-  (λ h. Contains-permutation found sorted v permuted ((adds v).1 (inr h))),
-  λ there. elim ((adds v).0 (Contains-permutation sorted found v (IsPermutation-sym found sorted permuted) there))
-      [ inl h ↦ absurd (omega (arith, h.1)) | inr h ↦ h ],
-)
+-- a text that isn't less than one that isn't less is not less
+not-less : (o : Ordering) (v w c : List ℕ) → slice_cmp nat_cmp w c ≡ o → slice_cmp nat_cmp v w ≢ Less → o ≢ Less → slice_cmp nat_cmp v c ≢ Less
+not-less Less v w c is first second less = absurd (second refl)
+not-less Equal v w c is first second less = first (alike_right nat_list_cmp_total w c v is ∙ less)
+not-less Greater v w c is first second less =
+    first (nat_list_cmp_total.trans v c w less (nat_list_cmp_total.antisymm c w ∙ ap ordering_reverse is))
+
+-- the cuts of texts, among which each version of a set is in a least text, are those of the set
+least-cuts : (Has Got : List ℕ → Type 0) (cuts : List (List ℕ)) → ((v : List ℕ) → Got v → Has v)
+    → ((v : List ℕ) → Has v → (w : List ℕ) × Got w × HasLess v w) → AreCuts Got cuts → AreCuts Has cuts
+least-cuts Has Got cuts into least are = record {
+  rising = are.rising;
+  least = all-contained (IsLeastText Has) cuts (λ c there.
+      let own = All-contains (IsLeastText Got) cuts c are.least there in (
+        into c own.0,
+        λ other has equal.
+            let stands = least other has in
+            let w = stands.0 in
+            let less = stands.2 in
+            let level : version_cmp w c ≡ Equal = sym (alike-left other w c less.0) ∙ equal in
+            not-less (slice_cmp nat_cmp w c) other w c refl less.1 (own.1 w stands.1 level),
+      ));
+  every = λ text has.
+      let stands = least text has in
+      let told = are.every stands.0 stands.1 in
+      any-more (λ cut. version_cmp stands.0 cut ≡ Equal) (λ cut. version_cmp text cut ≡ Equal)
+      (λ cut is. alike-left text stands.0 cut stands.2.0 ∙ is) cuts told;
+}
+
+module _ (P : List ℕ → Type 0) (found sorted : List (List ℕ)) (adds : AddsLeast [] found P) (permuted : IsPermutation found sorted) where
+  sorted-into : (v : List ℕ) → Contains sorted v → P v
+  sorted-into v there = elim (adds.there v (Contains-permutation sorted found v (IsPermutation-sym found sorted permuted) there))
+      [ inl h ↦ absurd (omega (arith, h.1)) | inr h ↦ h ]
+
+  sorted-least : (v : List ℕ) → P v → (w : List ℕ) × Contains sorted w × HasLess v w
+  sorted-least v has =
+      let any = adds.least v has in
+      (any.1, Contains-permutation found sorted any.1 permuted (any-there (HasLess v) found any), any.4)
 
 pub cluster-classes : (r : PackageList) (members top : List ℕ) (found sorted : List (List ℕ)) (classes : List Class)
-    → Adds [] found (IsBoundOn r (IsNameOfCluster r members)) → IsPermutation found sorted → IsSorted text_cmp sorted →
+    → AddsLeast [] found (IsClusterCut r members top) → IsPermutation found sorted → IsSorted text_cmp sorted →
     classes ≡ classes_above top (cuts_after top sorted) → AreClassesOf r members top classes
 cluster-classes r members top found sorted classes adds permuted up is =
-    let same = found-iff (IsBoundOn r (IsNameOfCluster r members)) found sorted adds permuted in
+    let Cut = IsClusterCut r members top in
+    let Got : List ℕ → Type 0 = λ v. IsBelow top v × Contains sorted v in
     record {
       cuts = cuts_after top sorted;
-      are_cuts = cuts-above (IsClusterCut r members top) top sorted (ordered-from_sorted sorted up)
-          (λ v. ((λ h. (h.0, (same v).0 h.1)), λ h. (h.0, (same v).1 h.1)));
+      are_cuts = least-cuts Cut Got (cuts_after top sorted) (λ v got. sorted-into Cut found sorted adds permuted v got.1)
+          (λ v has.
+          let stands = sorted-least Cut found sorted adds permuted v has in
+          (stands.0, ((sorted-into Cut found sorted adds permuted stands.0 stands.1).0, stands.1), stands.2))
+          (cuts-above Got top sorted (ordered-from_sorted sorted up) (λ v. ((λ h. h), λ h. h)));
       rising = cuts-rise top sorted;
       are = is;
     }
 
-pub name-classes : (r : PackageList) (name : List ℕ) (found sorted : List (List ℕ)) (classes : List Class) → Adds [] found (IsBoundOn r (λ other. other ≡ name))
-    → IsPermutation found sorted → IsSorted text_cmp sorted →
+pub name-classes : (r : PackageList) (name : List ℕ) (found sorted : List (List ℕ)) (classes : List Class)
+    → AddsLeast [] found (IsBoundOn r (λ other. other ≡ name)) → IsPermutation found sorted → IsSorted text_cmp sorted →
     classes ≡ classes_of_all (cuts_of sorted) → AreClassesOfName r name classes
-name-classes r name found sorted classes adds permuted up is = record {
-  cuts = cuts_of sorted;
-  are_cuts = cuts-all (IsNameCut r name) sorted (ordered-from_sorted sorted up) (found-iff (IsNameCut r name) found sorted adds permuted);
-  are = is;
-}
+name-classes r name found sorted classes adds permuted up is =
+    let Cut = IsNameCut r name in
+    record {
+      cuts = cuts_of sorted;
+      are_cuts = least-cuts Cut (Contains sorted) (cuts_of sorted) (sorted-into Cut found sorted adds permuted)
+          (sorted-least Cut found sorted adds permuted)
+          (cuts-all (Contains sorted) sorted (ordered-from_sorted sorted up) (λ v. ((λ h. h), λ h. h)));
+      are = is;
+    }

@@ -1,3 +1,4 @@
+pub mod BoundLemmas
 pub mod ClassLemmas
 pub mod ClassOfLemmas
 pub mod MatchLemmas

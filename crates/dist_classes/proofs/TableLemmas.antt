@@ -1,82 +1,34 @@
 -- What is noted of versions in bounds: of one atom, of some, and of all of a repository.
-use Rattle.std.proofs.Common.{◌≡◌, ◌≢◌, ◌⊎◌, ◌↔◌, ℕ, ◌+◌, ◌≤◌, Bool, true, false, cond, List, [], ◌∷◌, ◌++◌, length, get_or, take, Option, Some, None, refl}
-use Rattle.std.proofs.Common.{sym, ap, subst, ◌∙◌, inl, inr, arith, nat_cmp, slice_get, unwrap_or}
+use Rattle.std.proofs.Common.{◌≡◌, ◌⊎◌, ◌↔◌, ℕ, ◌+◌, ◌≤◌, List, [], ◌∷◌, ◌++◌, length, get_or, take, Option, Some, None}
+use Rattle.std.proofs.Common.{sym, ap, subst, ◌∙◌, inl, inr, arith, slice_get}
 use Rattle.std.specs.Prelude.{Any, Contains, IsSomeAnd}
-use Rattle.std.specs.BTreeMap.{is_at}
-use Rattle.std.specs.Cmp.Lexicographic.{slice_cmp}
-use Rattle.std.specs.Map.{lookup}
-use Rattle.std.proofs.lemmas.Bool.{false≢true}
 use Rattle.std.proofs.lemmas.List.{take_all, take_more}
 use Rattle.std.proofs.lemmas.List.Elements.{Contains-append_left, Contains-push, Contains-push_cases}
-use Rattle.std.proofs.lemmas.Map.Text.{is_eq-slice_cmp}
 use Rattle.std.proofs.lemmas.Option.{get_or_from_slice_get, slice_get_within}
-use Rattle.std.proofs.lemmas.Slice.Eq.{bytes_eq-Decides}
 use Rattle.dist_base.specs.ListLaws.{any-contained}
 use Rattle.dist_relation.specs.declared.atom.Atom.{Atom}
 use Rattle.dist_relation.specs.declared.atom.Bound.{Bound}
 use Rattle.dist_repo.specs.Match.{IsUsable}
 use Rattle.dist_repo.specs.PackageList.{PackageList}
 use Rattle.dist_classes.specs.Atoms.{IsBoundOn}
-use Rattle.dist_classes.specs.Table.{Entries, IsAtomBound, IsPackageBound, IsTableOf, Notes, versions_at}
+use Rattle.dist_classes.specs.Table.{Entries, Entry, HasBounds, IsAtomBound, IsPackageBound, Notes}
 
 -- ---- one version beside one name
 
-abbrev At : List ℕ → List ℕ → Bool
-At = λ name. is_at (slice_cmp nat_cmp name)
-
-at-same : (name q : List ℕ) → At name q ≡ true → name ≡ q
-at-same name q is = (bytes_eq-Decides name q).0 (sym (is_eq-slice_cmp name q) ∙ is)
-
-at-other : (name q : List ℕ) → At name q ≡ false → name ≢ q
-at-other name q is same = false≢true (sym is ∙ is_eq-slice_cmp name q ∙ (bytes_eq-Decides name q).1 same)
-
--- a list with one text more
-abbrev pub IsWith : List (List ℕ) → List ℕ → List (List ℕ) → Type 0
-IsWith list v new = new ≡ list ++ v ∷ []
-
-with-iff : (list new : List (List ℕ)) (v x : List ℕ) → IsWith list v new → Contains new x ↔ (Contains list x ⊎ (v ≡ x))
-with-iff list new v x is =
-    let In : List (List ℕ) → Type 0 = λ xs. Contains xs x in (
-      (λ there. Contains-push_cases list v x (subst In is there)),
+pub noted-push : (old new : Entries) (name v : List ℕ) → new ≡ old ++ (name, v) ∷ [] → Notes old new (λ q x. (name ≡ q) × (v ≡ x))
+noted-push old new name v is q x =
+    let In : Entries → Type 0 = λ xs. Contains xs (q, x) in (
+      (λ there. elim (Contains-push_cases old (name, v) (q, x) (subst In is there)) [
+        | inl h ↦ inl h
+        | inr h ↦ inr (ap (λ (b : Entry). b.0) h, ap (λ (b : Entry). b.1) h)
+      ]),
       λ either. subst In (sym is) (elim either [
-        | inl h ↦ Contains-append_left list (v ∷ []) x h
-        | inr h ↦ let P : List ℕ → Type 0 = λ y. Contains (list ++ v ∷ []) y in subst P h (Contains-push list v)
+        | inl h ↦ Contains-append_left old ((name, v) ∷ []) (q, x) h
+        | inr h ↦
+            let Has : Entry → Type 0 = λ e. Contains (old ++ (name, v) ∷ []) e in
+            subst Has (ap (λ n. (n, v)) h.0 ∙ ap (λ y. (q, y)) h.1) (Contains-push old (name, v))
       ]),
     )
-
-noted-case : (b : Bool) (t n : Entries) (name q v : List ℕ) (w : List (List ℕ)) → At name q ≡ b →
-    lookup (At q) n ≡ cond b (Some w) (lookup (At q) t) → IsWith (versions_at t name) v w →
-    (x : List ℕ) → Contains (versions_at n q) x ↔ (Contains (versions_at t q) x ⊎ ((name ≡ q) × (v ≡ x)))
-noted-case true t n name q v w is found adds x =
-    let here : name ≡ q = at-same name q is in
-    let now : versions_at n q ≡ w = ap (λ (o : Option (List (List ℕ))). unwrap_or o []) found in
-    let before : versions_at t name ≡ versions_at t q = ap (versions_at t) here in
-    let In : List (List ℕ) → Type 0 = λ xs. Contains xs x in
-    let iff = with-iff (versions_at t name) w v x adds in (
-      (λ there. elim (iff.0 (subst In now there)) [
-        | inl h ↦ inl (subst In before h)
-        | inr h ↦ inr (here, h)
-      ]),
-      λ either. subst In (sym now) (iff.1 (elim either [
-        | inl h ↦ inl (subst In (sym before) h)
-        | inr h ↦ inr h.1
-      ])),
-    )
-noted-case false t n name q v w is found adds x =
-    let same : versions_at n q ≡ versions_at t q = ap (λ (o : Option (List (List ℕ))). unwrap_or o []) found in
-    let In : List (List ℕ) → Type 0 = λ xs. Contains xs x in (
-      (λ there. inl (subst In same there)),
-      λ either. elim either [
-        | inl h ↦ subst In (sym same) h
-        | inr h ↦ absurd (at-other name q is h.0)
-      ],
-    )
-
--- what the map has beside each name, after the versions of one name were written
-pub noted-updated : (t n : Entries) (name v : List ℕ) (w : List (List ℕ)) →
-    ((q : List ℕ) → lookup (is_at (slice_cmp nat_cmp q)) n ≡ cond (is_at (slice_cmp nat_cmp name) q) (Some w) (lookup (is_at (slice_cmp nat_cmp q)) t)) →
-    IsWith (versions_at t name) v w → Notes t n (λ q x. (name ≡ q) × (v ≡ x))
-noted-updated t n name v w updates adds q x = noted-case (At name q) t n name q v w refl (updates q) adds x
 
 -- ---- several notes
 
@@ -193,7 +145,7 @@ from-bound r q v on = elim on.is_atom.there [
       (conflict.0, conflict.1, conflict.2, conflict.3, inr (inside.0, on.atom, inside.1, inside.2, (on.is_atom.usable, on.allowed, on.bound)))
 ]
 
-pub table-from : (r : PackageList) (table : Entries) → Notes [] table (λ q v. Any (IsPackageBound r.architecture q v) r.packages) → IsTableOf r table
+pub table-from : (r : PackageList) (table : Entries) → Notes [] table (λ q v. Any (IsPackageBound r.architecture q v) r.packages) → HasBounds r table
 table-from r table notes q v = (
   (λ there. elim ((notes q v).0 there) [ inl h ↦ absurd (omega (arith, h.1)) | inr h ↦ bound-from r q v h ]),
   λ on. (notes q v).1 (inr (from-bound r q v on)),

@@ -1,69 +1,116 @@
-//! The versions that a repository's atoms have in their bounds, name by name. All are found in one walk over the atoms.
-ghost use Rattle.std.specs.Prelude.{◌≡◌, ◌++◌, ◌∷◌, [], ℕ, List, Any, IfOk, OnOk};
-ghost use Rattle.dist_classes.specs.Table.{IsAtomBound, IsPackageBound, IsTableOf, Notes, versions_at};
+//! The versions that a repository's atoms have in their bounds, by name and version. All are found in one walk over the atoms;
+//! those on a name that are above a version are found by halving, and each that is equal to one before is passed over.
+ghost use Rattle.std.specs.Prelude.{◌≡◌, ◌≢◌, ◌↔◌, [], ℕ, List, None, Some, Any, Contains, IfOk, IfSome, OnOk, slice_get};
+ghost use Rattle.std.specs.Cmp.Lexicographic.{slice_cmp};
+ghost use Rattle.std.specs.List.Sorted.{IsSorted};
+ghost use Rattle.std.specs.Ordering.{is_le, is_lt, nat_cmp};
+ghost use Rattle.dist_version.specs.Order.{IsBelow};
+ghost use Rattle.dist_classes.specs.Table.{AddsLeast, HasBounds, IsAtomBound, IsPackageBound, IsStart, IsTableOf, Notes, StandsFrom, bound_cmp, key_cmp};
 
-use crate::keys::{NameKey, TextKey};
+use crate::keys::TextKey;
 use dist_relation::{Alternatives, Atom, Atoms, Items, Name};
 use dist_repo::{Package, Repository};
 use dist_version::Version;
 use std::alloc::{AllocError, Global};
-use std::collections::BTreeMap;
+use std::cmp::Ordering;
 use std::marker::Model;
 
-/// The versions in bounds on one name.
+/// A name, and a version in a bound on it.
 #[derive(Drop)]
-struct Versions<'a> {
-    versions: Vec<TextKey<'a>>,
+struct NameBound<'a> {
+    name: &'a Name,
+    version: TextKey<'a>,
 }
 
-impl<'a> Model for Versions<'a> {
-    ghost use Rattle.std.specs.Prelude.{ℕ, List};
+impl<'a> Model for NameBound<'a> {
+    ghost use Rattle.dist_classes.specs.Table.{Entry};
 
-    ghost Value = { List (List ℕ) };
+    ghost Value = { Entry };
 
-    ghost view = { λ v. v.versions.items };
+    ghost view = { λ bound. (bound.name.now, bound.version) };
 }
 
-impl<'a> Versions<'a> {
-    /// One version.
-    fn of(alloc: Global, version: &'a Version) -> Result<Versions<'a>, AllocError>
-        ensures { IfOk result (λ versions. versions ≡ version.now ∷ []) }
-    {
-        let mut versions = Vec::new(alloc);
-        versions.push(TextKey::new(version))?;
-        Ok(Versions { versions })
-    }
-
-    /// Adds a version as the last one.
-    fn push(&mut self, version: &'a Version) -> Result<(), AllocError>
-        ensures { OnOk result (self.new ≡ self.old ++ version.now ∷ []) }
-    {
-        self.versions.push(TextKey::new(version))?;
-        Ok(())
-    }
-
-    fn as_slice(&self) -> &[TextKey<'a>]
-        ensures { result.now ≡ self.now }
-    {
-        self.versions.as_slice()
-    }
-}
-
-/// Adds versions at the end of what was found.
-fn extend<'a>(found: &mut Vec<TextKey<'a>>, more: &[TextKey<'a>]) -> Result<(), AllocError>
-    ensures { OnOk result (found.new.items ≡ found.old.items ++ more.now) }
+/// The order of two bounds: by name, by version, and by text where versions are equal.
+fn compare_bounds<'a>(first: &NameBound<'a>, second: &NameBound<'a>) -> Ordering
+    ensures { result ≡ bound_cmp first.now second.now }
 {
-    for key in more {
-        found.push(TextKey::new(key.version()))?;
+    let order = first.name.bytes().cmp(second.name.bytes());
+    if order.is_ne() {
+        return order;
+    }
+    first.version.cmp(&second.version)
+}
+
+/// Whether a bound is on a lesser name.
+fn is_before(bound: &NameBound, name: &Name) -> bool
+    ensures { result ≡ is_lt (slice_cmp nat_cmp bound.now.0 name.now) }
+{
+    bound.name.bytes().cmp(name.bytes()).is_lt()
+}
+
+/// Whether a bound is on a lesser name, or on the name and its version is not above another one.
+fn is_up_to(bound: &NameBound, name: &Name, version: &Version) -> bool
+    ensures { result ≡ is_le (key_cmp bound.now (name.now, version.now)) }
+{
+    let order = bound.name.bytes().cmp(name.bytes());
+    if order.is_ne() {
+        return order.is_le();
+    }
+    bound.version.version().compare(version).is_le()
+}
+
+/// Where the bounds on a name begin.
+fn first_of(bounds: &[NameBound], name: &Name) -> usize
+    requires { IsSorted bound_cmp bounds.now }
+    ensures { IsStart bounds.now name.now result (λ v. Contains bounds.now (name.now, v)) }
+{
+    bounds.partition_point(|bound| is_before(bound, name))
+}
+
+/// Where those bounds on a name begin whose versions are above another one.
+fn first_above(bounds: &[NameBound], name: &Name, version: &Version) -> usize
+    requires { IsSorted bound_cmp bounds.now }
+    ensures { IsStart bounds.now name.now result (λ v. IsBelow version.now v × Contains bounds.now (name.now, v)) }
+{
+    bounds.partition_point(|bound| is_up_to(bound, name, version))
+}
+
+/// The version at a place, if it stands in a bound on the name.
+fn version_at<'a>(bounds: &[NameBound<'a>], name: &Name, place: usize) -> Option<&'a Version>
+    ensures some { IfSome result (λ version. slice_get bounds.now place ≡ Some (name.now, version.now)) }
+    ensures none { result ≡ None → (v : List ℕ) → slice_get bounds.now place ≢ Some (name.now, v) }
+{
+    let bound = bounds.get(place)?;
+    if bound.name != name {
+        return None;
+    }
+    Some(bound.version.version())
+}
+
+/// Adds the versions in bounds on a name from a place on, each once: the first of those that are equal. The others are passed
+/// over by halving.
+fn collect_from<'a>(
+    bounds: &[NameBound<'a>],
+    name: &Name,
+    place: usize,
+    found: &mut Vec<TextKey<'a>>,
+) -> Result<(), AllocError>
+    requires sorted { IsSorted bound_cmp bounds.now }
+    requires place { IsStart bounds.now name.now place (StandsFrom bounds.now place name.now) }
+    ensures { OnOk result (AddsLeast found.old.items found.new.items (StandsFrom bounds.now place name.now)) }
+{
+    let mut place = place;
+    while let Some(version) = version_at(bounds, name, place) {
+        found.push(TextKey::new(version))?;
+        place = first_above(bounds, name, version);
     }
     Ok(())
 }
 
-/// For each name the versions in bounds on it, as far as the atoms were gone through.
+/// The versions in bounds, by their names, as far as the atoms were gone through.
 #[derive(Drop)]
 pub(crate) struct Table<'a> {
-    alloc: Global,
-    versions: BTreeMap<NameKey<'a>, Versions<'a>>,
+    bounds: Vec<NameBound<'a>>,
 }
 
 impl<'a> Model for Table<'a> {
@@ -71,7 +118,7 @@ impl<'a> Model for Table<'a> {
 
     ghost Value = { Entries };
 
-    ghost view = { λ table. table.versions.entries };
+    ghost view = { λ table. table.bounds.items };
 }
 
 impl<'a> Table<'a> {
@@ -79,36 +126,52 @@ impl<'a> Table<'a> {
         ensures { result ≡ [] }
     {
         Table {
-            alloc,
-            versions: BTreeMap::new(alloc),
+            bounds: Vec::new(alloc),
         }
     }
 
-    /// Adds the versions beside a name at the end of what was found.
+    /// Adds the versions in bounds on a name, each once.
     pub(crate) fn collect(
         &self,
-        name: &'a Name,
+        name: &Name,
         found: &mut Vec<TextKey<'a>>,
     ) -> Result<(), AllocError>
-        ensures { OnOk result (found.new.items ≡ found.old.items ++ versions_at self.now name.now) }
+        requires { IsSorted bound_cmp self.now }
+        ensures { OnOk result (AddsLeast found.old.items found.new.items (λ v. Contains self.now (name.now, v))) }
     {
-        let key = NameKey { name };
-        let Some(versions) = self.versions.get(&key) else {
-            return Ok(());
-        };
-        extend(found, versions.as_slice())
+        let bounds = self.bounds.as_slice();
+        collect_from(bounds, name, first_of(bounds, name), found)
+    }
+
+    /// Adds the versions in bounds on a name that are above another one, each once.
+    pub(crate) fn collect_above(
+        &self,
+        name: &Name,
+        version: &Version,
+        found: &mut Vec<TextKey<'a>>,
+    ) -> Result<(), AllocError>
+        requires { IsSorted bound_cmp self.now }
+        ensures { OnOk result (AddsLeast found.old.items found.new.items (λ v. IsBelow version.now v × Contains self.now (name.now, v))) }
+    {
+        let bounds = self.bounds.as_slice();
+        collect_from(bounds, name, first_above(bounds, name, version), found)
+    }
+
+    /// Puts the bounds in order.
+    fn sort(&mut self)
+        ensures sorted { IsSorted bound_cmp self.new }
+        ensures same { (q v : List ℕ) → Contains self.new (q, v) ↔ Contains self.old (q, v) }
+    {
+        self.bounds
+            .sort_unstable_by(|first, second| compare_bounds(first, second));
     }
 
     /// Notes that a version stands in a bound on a name.
     fn note(&mut self, name: &'a Name, version: &'a Version) -> Result<(), AllocError>
         ensures { OnOk result (Notes self.old self.new (λ q v. (name.now ≡ q) × (version.now ≡ v))) }
     {
-        let key = NameKey { name };
-        if let Some(versions) = self.versions.get_mut(&key) {
-            return versions.push(version);
-        }
-        let versions = Versions::of(self.alloc, version)?;
-        self.versions.insert(key, versions)?;
+        let version = TextKey::new(version);
+        self.bounds.push(NameBound { name, version })?;
         Ok(())
     }
 
@@ -167,7 +230,7 @@ impl<'a> Table<'a> {
     /// Notes all atoms of a repository, where nothing is noted.
     fn note_packages(&mut self, repo: &'a Repository) -> Result<(), AllocError>
         requires { self.old ≡ [] }
-        ensures { OnOk result (IsTableOf repo.now self.new) }
+        ensures { OnOk result (HasBounds repo.now self.new) }
     {
         for number in 0..repo.len() {
             self.note_package(repo, repo.package(number))?;
@@ -182,7 +245,10 @@ pub(crate) fn table_of<'a>(alloc: Global, repo: &'a Repository) -> Result<Table<
 {
     let mut table = Table::new(alloc);
     match table.note_packages(repo) {
-        Ok(()) => Ok(table),
+        Ok(()) => {
+            table.sort();
+            Ok(table)
+        }
         Err(error) => {
             drop(table);
             Err(error)

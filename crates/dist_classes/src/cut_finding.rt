@@ -1,11 +1,12 @@
 //! The classes of a cluster and of a new name: their cuts are the versions that atoms have in bounds on their names.
 ghost use Rattle.std.specs.Prelude.{◌≡◌, ◌<◌, ◌↔◌, ◌⊎◌, [], ℕ, List, All, Any, Contains, IfOk, IsSomeAnd, IsTrue, OnOk, length, slice_get, slice_index_or};
+ghost use Rattle.dist_version.specs.Order.{IsBelow};
 ghost use Rattle.dist_repo.specs.PackageList.{IsPackageAnd};
 ghost use Rattle.dist_classes.specs.Answers.{AreClassesOf, AreClassesOfName, AreClustersOf};
 ghost use Rattle.dist_classes.specs.Atoms.{IsBoundOn};
-ghost use Rattle.dist_classes.specs.Cuts.{IsNameOfCluster};
+ghost use Rattle.dist_classes.specs.Cuts.{IsClusterCut, IsNameOfCluster};
 ghost use Rattle.dist_classes.specs.NewVersion.{IsAt, IsMovedName, IsMoving};
-ghost use Rattle.dist_classes.specs.Table.{Adds};
+ghost use Rattle.dist_classes.specs.Table.{Adds, AddsLeast};
 
 use crate::bound_table::{Table, table_of};
 use crate::class_list::{Classes, classes_above, classes_of_all};
@@ -64,11 +65,23 @@ impl<'a> CutFinder<'a> {
         Ok(CutFinder { alloc, repo, table })
     }
 
-    /// Adds the versions in bounds on a name.
-    fn collect(&self, name: &'a Name, found: &mut Vec<TextKey<'a>>) -> Result<(), AllocError>
-        ensures { OnOk result (Adds found.old.items found.new.items (IsBoundOn self.now (λ other. other ≡ name.now))) }
+    /// Adds the versions in bounds on a name, each once.
+    fn collect(&self, name: &Name, found: &mut Vec<TextKey<'a>>) -> Result<(), AllocError>
+        ensures { OnOk result (AddsLeast found.old.items found.new.items (IsBoundOn self.now (λ other. other ≡ name.now))) }
     {
         self.table.collect(name, found)
+    }
+
+    /// Adds the versions in bounds on a name that are above another one, each once.
+    fn collect_above(
+        &self,
+        name: &Name,
+        top: &Version,
+        found: &mut Vec<TextKey<'a>>,
+    ) -> Result<(), AllocError>
+        ensures { OnOk result (AddsLeast found.old.items found.new.items (λ v. IsBelow top.now v × IsBoundOn self.now (λ other. other ≡ name.now) v)) }
+    {
+        self.table.collect_above(name, top, found)
     }
 
     /// Adds the names that a new version of a package has at its own version.
@@ -122,32 +135,34 @@ impl<'a> CutFinder<'a> {
         }
     }
 
-    /// Adds the versions in bounds on some names.
+    /// Adds the versions in bounds on some names that are above another one.
     fn collect_names(
         &self,
         names: &BTreeSet<NameKey<'a>>,
+        top: &Version,
         found: &mut Vec<TextKey<'a>>,
     ) -> Result<(), AllocError>
-        ensures { OnOk result (Adds found.old.items found.new.items (IsBoundOn self.now (Contains names.now.keys))) }
+        ensures { OnOk result (AddsLeast found.old.items found.new.items (λ v. IsBelow top.now v × IsBoundOn self.now (Contains names.now.keys) v)) }
     {
         let keys = names.iter();
         for key in keys {
-            self.collect(key.name(), found)?;
+            self.collect_above(key.name(), top, found)?;
         }
         Ok(())
     }
 
-    /// Adds the versions in bounds on the names of the members of a cluster.
+    /// Adds the versions above the top of a cluster in bounds on the names of its members.
     fn collect_members(
         &self,
         members: &[u32],
+        top: &Version,
         found: &mut Vec<TextKey<'a>>,
     ) -> Result<(), AllocError>
         requires { All (λ number. number < length self.now.packages) members.now }
-        ensures { OnOk result (Adds found.old.items found.new.items (IsBoundOn self.now (IsNameOfCluster self.now members.now))) }
+        ensures { OnOk result (AddsLeast found.old.items found.new.items (IsClusterCut self.now members.now top.now)) }
     {
         let names = self.names_of(members)?;
-        let collected = self.collect_names(&names, found);
+        let collected = self.collect_names(&names, top, found);
         drop(names);
         collected
     }
@@ -163,7 +178,7 @@ impl<'a> CutFinder<'a> {
         requires none { found.old.items ≡ [] }
         ensures { IfOk result (AreClassesOf self.now members.now top.now) }
     {
-        self.collect_members(members, found)?;
+        self.collect_members(members, top, found)?;
         found.sort()?;
         classes_above(self.alloc, top, found)
     }
@@ -195,7 +210,7 @@ impl<'a> CutFinder<'a> {
     /// The classes of the versions of a new name, whose cuts are found into an empty list.
     fn classes_by_name(
         &self,
-        name: &'a Name,
+        name: &Name,
         found: &mut Vec<TextKey<'a>>,
     ) -> Result<Classes, AllocError>
         requires { found.old.items ≡ [] }
@@ -207,7 +222,7 @@ impl<'a> CutFinder<'a> {
     }
 
     /// The classes of the versions of a new name.
-    pub fn classes_of_new_name(&self, name: &'a Name) -> Result<Classes, AllocError>
+    pub fn classes_of_new_name(&self, name: &Name) -> Result<Classes, AllocError>
         ensures { IfOk result (AreClassesOfName self.now name.now) }
     {
         let mut found = Vec::new(self.alloc);

@@ -2,7 +2,7 @@
 //! tell apart. All versions of a class match alike, so one example of each is enough for every question.
 //!
 //! `CutFinder` goes through the atoms once and then gives each cluster and each name its cuts; each name is asked once for a
-//! cluster, however many entries have it.
+//! cluster, however many entries have it, and only for the versions above its top.
 #![tactic(auto)]
 
 mod bound_table;

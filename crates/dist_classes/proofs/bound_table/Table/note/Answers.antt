@@ -1,35 +1,14 @@
-use Rattle.std.proofs.Common.{◌≡◌, ◌++◌, ◌∷◌, [], ℕ, List, Option, unwrap_or, sym, ap, subst, ◌∙◌, rules}
-use Rattle.std.specs.BTreeMap.{BTreeMap}
-use Rattle.std.specs.Prelude.{OnOk}
-use Rattle.std.proofs.lemmas.Result.{on_ok_weaker}
-use Rattle.dist_classes.specs.Table.{Entries, Notes, versions_at}
-use Rattle.dist_classes.proofs.TableLemmas.{noted-updated}
+use Rattle.std.proofs.Common.{◌≡◌, ℕ, List, subst}
+use Rattle.dist_classes.specs.Table.{Entries, Notes}
+use Rattle.dist_classes.proofs.TableLemmas.{noted-push}
 use Rattle.dist_classes.proofs.bound_table.Table.note.Goals as goal
-
-pub returns-in-Some : goal.returns-in-Some
-returns-in-Some c =
-    let t = c.self.inside.versions.entries in
-    let name = c.args.name.now in
-    let v = c.args.version.now in
-    let here : versions_at t name ≡ c.in-Some.versions.now = ap (λ (o : Option (List (List ℕ))). unwrap_or o []) (sym c.in-Some.ensures.value) in
-    let n = (c.get_mut.follows.lender c.push.new.self).entries in
-    let Seen : Entries → Type 0 = λ list. OnOk c.push.result (Notes list n (λ q x. (name ≡ q) × (v ≡ x))) in
-    let updates = (c.get_mut.follows.holds c.push.new.self).3 (search rules) in
-    subst Seen c.self.view_is
-    (on_ok_weaker c.push.result (λ adds. noted-updated t n name v c.push.new.self (λ q. updates.0 q)
-    (adds ∙ ap (λ (list : List (List ℕ)). list ++ v ∷ []) (sym here))) c.push.ensures)
 
 pub returns : goal.returns
 returns c =
-    let t = c.get_mut.follows.lender-at-none.entries in
     let name = c.args.name.now in
-    let v = c.args.version.now in
-    let was : t ≡ c.args.self.now = ap (λ (m : BTreeMap (List ℕ) (List (List ℕ))). m.entries) c.get_mut.follows.holds-at-none ∙ c.self.view_is in
-    let none : versions_at c.self.inside.versions.entries name ≡ [] = ap (λ (o : Option (List (List ℕ))). unwrap_or o []) (sym c.in_default.ensures.value) in
-    let none_here : versions_at t name ≡ [] = ap (λ (m : BTreeMap (List ℕ) (List (List ℕ))). versions_at m.entries name) c.get_mut.follows.holds-at-none
-    ∙ none in
-    let n = c.insert.new.self.entries in
-    let Seen : Entries → Type 0 = λ list. Notes list n (λ q x. (name ≡ q) × (v ≡ x)) in
-    subst Seen was
-    (noted-updated t n name v c.in_ok-versions.versions (λ q. c.in_ok-insert.ensures.updates.0 q)
-    (c.in_ok-versions.ensures ∙ ap (λ (list : List (List ℕ)). list ++ v ∷ []) (sym none_here)))
+    let v = c.new-version.result in
+    let new : Entries = c.push.new.self.items in
+    let From : Entries → Type 0 = λ old. Notes old new (λ q x. (name ≡ q) × (v ≡ x)) in
+    let Of : List ℕ → Type 0 = λ w. Notes c.args.self.now new (λ q x. (name ≡ q) × (w ≡ x)) in
+    subst Of c.new-version.ensures
+    (subst From c.self.view_is (noted-push c.self.inside.bounds.items new name v c.in_ok-push.ensures.items))

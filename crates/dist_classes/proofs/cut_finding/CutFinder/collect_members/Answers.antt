@@ -4,5 +4,5 @@ use Rattle.dist_classes.proofs.cut_finding.CutFinder.collect_members.Goals as go
 
 pub returns : goal.returns
 returns c =
-    on_ok_weaker c.collect_names-collected.result (members-all c.args.self.now c.args.members.now c.in_ok-names.names.keys c.args.found.now.items
+    on_ok_weaker c.collect_names-collected.result (members-all c.args.self.now c.args.members.now c.args.top.now c.in_ok-names.names.keys c.args.found.now.items
     c.collect_names-collected.new.found.items c.in_ok-names.ensures) c.collect_names-collected.ensures
