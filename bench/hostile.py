@@ -215,11 +215,12 @@ def behind_a_chain(n):
     """A chain of n packages that each lead to the next one or to one that all lead to, and whose last one leads to n / 4 others; each of these leads to
     one package in two ways; as many questions, each on a package of its own that leads to the chain, with a new line on one of these."""
     groups = n // 4
-    packages, lines = stanza("link-000000", more="Depends: " + ", ".join(f"g{k:06}-d" for k in range(groups)) + "\n") + stanza("w"), ""
-    packages += "".join(stanza(f"link-{k:06}", more=f"Depends: link-{k - 1:06} | w\n") for k in range(1, n))
+    packages, lines = stanza("link-of-000000", more="Depends: " + ", ".join(f"g{k:06}-d" for k in range(groups)) + "\n") + stanza("w"), ""
+    packages += "".join(stanza(f"link-of-{k:06}", more=f"Depends: link-of-{k - 1:06} | w\n") for k in range(1, n))
     for k in range(groups):
         name = f"g{k:06}"
-        packages += stanza(f"{name}-d", more=f"Depends: {name}-x | {name}-y\n") + stanza(f"{name}-z") + stanza(f"p{k:06}", more=f"Depends: link-{n - 1:06}\n")
+        packages += stanza(f"{name}-d", more=f"Depends: {name}-x | {name}-y\n") + stanza(f"{name}-z")
+        packages += stanza(f"p{k:06}", more=f"Depends: link-of-{n - 1:06}\n")
         packages += "".join(stanza(f"{name}-{letter}", more=f"Depends: {name}-z\n") for letter in "xy")
         lines += f"q {4 * groups + n + k + 1}\nd {4 * k + 4} -{4 * k + 1} 0 {3 * k + 2} {3 * k + 3} {3 * k + 1}\nu\n"
     return packages, f"distfuture-certificate 1 strong plain 1 {5 * groups + n + 1} {5 * groups + n + 1} {5 * groups + n - 1}\n" + lines
