@@ -42,6 +42,8 @@ class Install(Files):
         report = f"{FOLDER}/tests/data/today.challenged"
         done = call(f"{self.installed()}/bin/distfuture-diff", report, report, PYTHONDONTWRITEBYTECODE="1")
         self.assertEqual((done.returncode, done.stdout, done.stderr), (0, "", ""))
+        done = call(f"{self.path('prefix')}/bin/distfuture-why-all", "--help", PYTHONDONTWRITEBYTECODE="1")
+        self.assertTrue(done.stdout.startswith("usage: distfuture-why-all "), done.stdout)
 
     def test_pages_have_their_new_names(self):
         page = text_of(f"{self.installed()}/share/man/man1/distfuture-why-all.1")
