@@ -86,7 +86,8 @@ class Examples(Files):
         self.file("PACKAGES", OLDER + "\nPackage: libx-dev\nVersion: 1\nSource: libx\n")
         whole = next(block for block in blocks("docs/USING.md") if block.startswith("= upload"))
         self.file("JOURNAL", whole)
-        self.check("$ distfuture challenged PACKAGES CERT > REPORT\n$ distfuture follow PACKAGES CERT JOURNAL\nsteps 1\npackages 3\nbroken p=1 by libx=1 at 2\n")
+        self.check("$ distfuture challenged PACKAGES CERT > REPORT\n"
+                   "$ distfuture follow PACKAGES CERT JOURNAL\nsteps 1\npackages 3\nbroken p=1 by libx=1 at 2\n")
         self.file("JOURNAL", whole.partition("\n\n")[0] + "\n")
         self.check("$ distfuture follow PACKAGES CERT JOURNAL\nsteps 1\npackages 2\n")
 

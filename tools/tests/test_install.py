@@ -80,8 +80,9 @@ class Deb(Files):
     def test_what_it_has(self):
         package = self.package()
         paths = set(re.findall(r"\./(usr/\S*[^/\s])(?: ->|$)", call("dpkg-deb", "--contents", package).stdout, re.MULTILINE))
-        for path in ("bin/distfuture", "bin/distfuture-coming", "share/man/man1/distfuture.1.gz", "share/doc/distfuture/README.md", "share/doc/distfuture/docs/USING.md",
-                     "share/zsh/vendor-completions/_distfuture", "share/bash-completion/completions/distfuture", "share/doc/distfuture/copyright"):
+        for path in ("bin/distfuture", "bin/distfuture-coming", "share/man/man1/distfuture.1.gz", "share/doc/distfuture/README.md",
+                     "share/doc/distfuture/docs/USING.md", "share/zsh/vendor-completions/_distfuture", "share/bash-completion/completions/distfuture",
+                     "share/doc/distfuture/copyright"):
             self.assertIn(f"usr/{path}", paths)
         self.assertFalse([path for path in paths if "__pycache__" in path])
         self.assertRegex(call("dpkg-deb", "--field", package, "Version").stdout, r"^1\.0")

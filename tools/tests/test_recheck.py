@@ -118,7 +118,8 @@ class Documents(unittest.TestCase):
 
     def test_what_is_undecided_needs_new_lines(self):
         """At limit 1 the question is left open by one derived line, which is new where propagation does not find it."""
-        packages = b"Package: a\nVersion: 1\nDepends: b | c\n\nPackage: b\nVersion: 1\nDepends: d\n\nPackage: c\nVersion: 1\nDepends: d\n\nPackage: d\nVersion: 1\n"
+        packages = (b"Package: a\nVersion: 1\nDepends: b | c\n\nPackage: b\nVersion: 1\nDepends: d\n\n"
+                    b"Package: c\nVersion: 1\nDepends: d\n\nPackage: d\nVersion: 1\n")
         front = "distfuture-certificate 1 strong plain 1 4 4 3\nq 1\n"
         rest = "u\ny 1\nq 2\nm 2 4\nq 2 -4\nf 2\ns 2 1 0 4 0\nq 3\nm 3 4\nq 3 -4\nf 3\ns 3 2 0 4 0\nq 4\nm 4\ns 4 3 0 0\ne\n"
         self.assertTrue(judged(packages, front + "d 4 -1 0 2 3 1\n" + rest).is_undecided())
