@@ -213,7 +213,8 @@ LINES = [b"u", b"f", b"e", b"", b" ", b"q", b"q 1", b"q 1 -2", b"q -2 1", b"q 2 
          b"d -1 0 1", b"d 1 -1 0 1", b"x 1", b"y 1", b"o 1", b"a 1 1", b"a 1", b"c 1 1 0 0", b"c 1 1 0 1 1 0 1 2", b"c 1 1 0 1 0",
          b"s 1 1 0 0", b"s 1 0 0", b"s 1 1 0", b"s 1 1 1 0 0", b"z 1", b"E", b"q 0", b"q -0", b"q +1", b"q 1.", b"x 01", b"f 0", b"f -1",
          b"m -1", b"m 0", b"x", b"x 1 1", b"u 1", b"e 0", b"q 4294967295", b"q 4294967296", b"q -4294967296", b"f 4294967295", b"f 4294967296",
-         b"f 99999999999999999999", b"e\r", b"#", b"q\t1", b"\xff", b"q 1 ", b" q 1", b"q  1", b"distfuture-certificate 1 strong plain 1 1 1 1", b"a 1 2", b"o 2", b"q 1 2", b"q 1 3", b"q 2", b"q 2 4", b"c 2 1 0 0", b"c 1 1 0 2 1 0 2 1",
+         b"f 99999999999999999999", b"e\r", b"#", b"q\t1", b"\xff", b"q 1 ", b" q 1", b"q  1", b"distfuture-certificate 1 strong plain 1 1 1 1",
+         b"a 1 2", b"o 2", b"q 1 2", b"q 1 3", b"q 2", b"q 2 4", b"c 2 1 0 0", b"c 1 1 0 2 1 0 2 1",
          b"c 1 1 1 0 0", b"c 1 0 0", b"a 1 0", b"a 0 1"]
 
 
@@ -461,7 +462,8 @@ def main(program, certificates_wanted="20000", seed="1", seconds="1e9"):
                 seen[f"{kind} {'whole' if is_whole else 'edited'}: {short(answer)}"] += 1
             if found:
                 break
-    print(f"seed {seed}: {archives} archives, {count} certificates, {accepted} of them accepted and all claims of these true, {runner.runs} runs of the program")
+    print(f"seed {seed}: {archives} archives, {count} certificates, {accepted} of them accepted and all claims of these true, "
+          f"{runner.runs} runs of the program")
     for told, number in sorted(seen.items()):
         print(f"  {told}: {number}")
     if found:

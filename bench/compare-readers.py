@@ -16,16 +16,19 @@ from small_archives import sc
 
 FIELDS = [b"Package", b"Version", b"Architecture", b"Source", b"Pre-Depends", b"Depends", b"Conflicts", b"Breaks", b"Provides", b"Essential", b"Description",
           b"depends", b"PROVIDES", b"X-1", b"Multi-Arch", b"Recommends"]
-LINES = [b"Foo", b"#x: 1", b"-x: 1", b" more", b"\tmore", b": 1", b"X y: 1", b"X\xff: 1", b"X\x7f: 1", b"X!: 1", b"x:", b"Depends: a", b"Package: a", b"Package:", b"Version: 1", b"", b" ",
-         b"\t ", b"\r", b" .", b"\x0b", b"Architecture: i386", b"Architecture: all", b"Architecture: amd64", b"Architecture: a b", b"Architecture:", b"Essential: yes"]
-VERSIONS = [b"", b":1", b"x:1", b"2147483648:1", b"2147483647:1", b"4294967297:1", b"00000000000002:1", b"1-", b"-1", b"1:", b"1:-1", b"1_0", b"1:2:3-4-5", b"1-2-3", b"1-2_", b"1-2:3",
-            b"1-2:", b"a", b"~", b"1~~", b"+b1", b"1+b", b"1:+b1", b"1-+b1", b"1.0\xc3", b"1\x00", b"1/2", b"0:0-0", b"1", b"2", b"1.0", b"1-1", b"0000000000000000000000000000001",
-            b"99999999999999999999999999999999999999999999", b"1 ", b"1\t2", b"1\r"]
-SOURCES = [b"a (1) x", b"a (", b"a ()", b"", b"a(2)", b"a ( 2 )", b"a (2", b"a 2", b"a )", b"(1)", b"a (1_0)", b"a\t(1)", b"a (1)(2)", b"a (1))", b"_a", b"a:any", b"a\n (1)", b"s (1:1)",
-           b"s (1-0)", b"s (1.0)", b"A", b"a ((1)", b"a (1 2)"]
-TOKENS = [b"a", b"b", b"v", b"zz", b"A", b"a-1", b"b.c", b"a+", b"a_b", b"+a", b"-a", b".a", b"_a", b":", b":any", b":native", b":amd64", b":all", b"(", b")", b",", b"|", b"<<", b"<=", b"=",
-          b">=", b">>", b"<", b">", b"==", b"=<", b"<>", b"=>", b">>>", b" ", b" ", b"  ", b"\t", b"\n ", b"\n\t", b"1", b"2", b"1.0-1", b"1:2", b"x:1", b"1-", b"1_0", b"[amd64]", b"<!x>", b"\r",
-          b"\xff", b"\x00", b"$", b"(= 1)", b"(>= 2)", b" (<< 1:0)", b"(= 1", b"a (= 1)", b" | b", b", a", b"a (>= 1)", b"a:any (<= 2)"]
+LINES = [b"Foo", b"#x: 1", b"-x: 1", b" more", b"\tmore", b": 1", b"X y: 1", b"X\xff: 1", b"X\x7f: 1", b"X!: 1", b"x:", b"Depends: a", b"Package: a",
+         b"Package:", b"Version: 1", b"", b" ", b"\t ", b"\r", b" .", b"\x0b", b"Architecture: i386", b"Architecture: all", b"Architecture: amd64",
+         b"Architecture: a b", b"Architecture:", b"Essential: yes"]
+VERSIONS = [b"", b":1", b"x:1", b"2147483648:1", b"2147483647:1", b"4294967297:1", b"00000000000002:1", b"1-", b"-1", b"1:", b"1:-1", b"1_0",
+            b"1:2:3-4-5", b"1-2-3", b"1-2_", b"1-2:3", b"1-2:", b"a", b"~", b"1~~", b"+b1", b"1+b", b"1:+b1", b"1-+b1", b"1.0\xc3", b"1\x00", b"1/2",
+            b"0:0-0", b"1", b"2", b"1.0", b"1-1", b"0000000000000000000000000000001", b"99999999999999999999999999999999999999999999", b"1 ", b"1\t2",
+            b"1\r"]
+SOURCES = [b"a (1) x", b"a (", b"a ()", b"", b"a(2)", b"a ( 2 )", b"a (2", b"a 2", b"a )", b"(1)", b"a (1_0)", b"a\t(1)", b"a (1)(2)", b"a (1))",
+           b"_a", b"a:any", b"a\n (1)", b"s (1:1)", b"s (1-0)", b"s (1.0)", b"A", b"a ((1)", b"a (1 2)"]
+TOKENS = [b"a", b"b", b"v", b"zz", b"A", b"a-1", b"b.c", b"a+", b"a_b", b"+a", b"-a", b".a", b"_a", b":", b":any", b":native", b":amd64", b":all",
+          b"(", b")", b",", b"|", b"<<", b"<=", b"=", b">=", b">>", b"<", b">", b"==", b"=<", b"<>", b"=>", b">>>", b" ", b" ", b"  ", b"\t", b"\n ",
+          b"\n\t", b"1", b"2", b"1.0-1", b"1:2", b"x:1", b"1-", b"1_0", b"[amd64]", b"<!x>", b"\r", b"\xff", b"\x00", b"$", b"(= 1)", b"(>= 2)",
+          b" (<< 1:0)", b"(= 1", b"a (= 1)", b" | b", b", a", b"a (>= 1)", b"a:any (<= 2)"]
 RELATIONS = FIELDS[4:9]
 
 
@@ -92,14 +95,16 @@ def edit(draw, data):
         lines[at] = name + b": " + fitting(draw, name)
     elif kind == 8 and lines[at]:
         some, place = bytes([draw.choice(b" \t\r\n():|,<=>~-+_.:#aZ019\xc3\x00\x7f\x0b")]), draw.randrange(len(lines[at]) + 1)
-        lines[at] = draw.choice([lines[at][:place] + some + lines[at][place:], lines[at][:place] + some + lines[at][place + 1:], lines[at][:place] + lines[at][place + 1:]])
+        lines[at] = draw.choice([lines[at][:place] + some + lines[at][place:], lines[at][:place] + some + lines[at][place + 1:],
+                                 lines[at][:place] + lines[at][place + 1:]])
     elif kind == 9:
         words = lines[at].split(b" ")
         i, j = draw.randrange(len(words)), draw.randrange(len(words))
         words[i], words[j] = draw.choice([(words[j], words[i]), (words[j], words[j]), (words[i] + b"\n", words[j])])
         lines[at] = b" ".join(words)
     elif kind == 10:
-        return data + draw.choice([b"\n", b"\n\nPackage: a\nVersion: 7\n", b"\nPackage: q\n", b" ", b"x", b"\nVersion: 1\n", b"\n\n\n", b"\n \n\t\n", b"\n more\n"])
+        return data + draw.choice([b"\n", b"\n\nPackage: a\nVersion: 7\n", b"\nPackage: q\n", b" ", b"x", b"\nVersion: 1\n", b"\n\n\n",
+                                   b"\n \n\t\n", b"\n more\n"])
     else:
         some, place = bytes([draw.randrange(256)]), draw.randrange(len(data) + 1)
         return data[:place] + some + data[place + draw.randint(0, 1):]

@@ -210,7 +210,8 @@ def journal_of(shape, n):
 
 def later_of(shape, n):
     brings, which = shape.journal
-    later = [dataclasses.replace(t, version="numbered") if k == which and brings and t.version == "constant" else t for k, t in enumerate(shape.templates) if brings or k != which]
+    later = [dataclasses.replace(t, version="numbered") if k == which and brings and t.version == "constant" else t
+             for k, t in enumerate(shape.templates) if brings or k != which]
     return "".join(template.text(n) for template in later)
 
 
@@ -379,7 +380,8 @@ def told(shape):
         return f"{it.base}{number}" + (f" ({it.bound} {it.version})" if it.bound else "")
 
     def template(it):
-        fields = [f"{field}: {', '.join(map(relation, getattr(it, field.lower())))}" for field in ("Depends", "Conflicts", "Provides") if getattr(it, field.lower())]
+        fields = [f"{field}: {', '.join(map(relation, getattr(it, field.lower())))}" for field in ("Depends", "Conflicts", "Provides")
+                  if getattr(it, field.lower())]
         fields += ["Essential"] if it.essential else []
         fields += [f"Source: {it.source}"] if it.source else []
         return f"{'n ' if it.many else ''}{it.base}{'k' if it.many and it.name == 'numbered' else ''} {it.version} [{'; '.join(fields)}]"

@@ -8,6 +8,7 @@ Usage: definitions.py [--twice | --page | --check] [FILE FUNCTION]..    crates/d
 import os
 import re
 import sys
+import textwrap
 
 TOP = os.path.normpath(os.path.join(os.path.dirname(os.path.abspath(__file__)), ".."))
 # What begins a definition at the start of a line, or a field of a record that others read.
@@ -242,7 +243,9 @@ def part(wanted):
                 entries = list(entries_of(path, wanted))
                 if entries:
                     chapter.append(f"**`{path}`**\n")
-                    chapter += [f"- {', '.join(f'`{name}`' for name in told)}: {words}" for told, words in entries]
+                    for told, words in entries:
+                        entry = f"- {', '.join(f'`{name}`' for name in told)}: {words}"
+                        chapter += textwrap.wrap(entry, 150, subsequent_indent="  ", break_on_hyphens=False)
                     chapter.append("")
         if chapter:
             lines += [f"## {title}\n", *chapter]

@@ -227,8 +227,11 @@ def behind_a_chain(n):
 
 
 def learned_again(n):
-    """A package with two needs that are met in two ways each: one way fails at once, and another by seven pigeons in six holes, with so many pairs beside it."""
-    packages = stanza("0p", more="Depends: a | zok, b | zhard\n") + stanza("a", more="Depends: aa, ab\n") + stanza("aa", more="Conflicts: ab\n") + stanza("ab") + stanza("b")
+    """A package with two needs that are met in two ways each: one way fails at once.
+
+    Another fails by seven pigeons in six holes, with so many pairs beside it."""
+    packages = stanza("0p", more="Depends: a | zok, b | zhard\n") + stanza("a", more="Depends: aa, ab\n")
+    packages += stanza("aa", more="Conflicts: ab\n") + stanza("ab") + stanza("b")
     packages += "".join(stanza(f"g{k}h{j}", more=f"Provides: h{j}\nConflicts: h{j}\n") for k in range(7) for j in range(6))
     packages += "".join(stanza(f"l{k:06}") + stanza(f"m{k:06}") for k in range(n))
     asks = [" | ".join(f"g{k}h{j}" for j in range(6)) for k in range(7)] + [f"l{k:06} | m{k:06}" for k in range(n)]
@@ -323,7 +326,8 @@ ROWS = {
     "so many lists of blanks between commas": (50_000, lambda n: read("".join(stanza(f"p{k}", more="Depends: a" + "," * 63 + "\n") for k in range(n)))),
     "so many packages that ask for a version of one name": (40_000, lambda n: judged(*asked_by_many(n))),
     "the health of one item of so many qualifiers that no package has": (40_000, lambda n: judged(
-        stanza("p", more="Depends: " + " | ".join(f"a:x{k}" for k in range(n // 2)) + "\n") + "".join(stanza(f"q{k:06}", more="Provides: a\n") for k in range(n // 2)), "p 1\n")),
+        stanza("p", more="Depends: " + " | ".join(f"a:x{k}" for k in range(n // 2)) + "\n")
+        + "".join(stanza(f"q{k:06}", more="Provides: a\n") for k in range(n // 2)), "p 1\n")),
     "the explanation of one item of so many versions beside as many that its package provides": (40_000, lambda n: explained(
         "Depends: " + " | ".join(f"a (= {2 * k})" for k in range(n // 2)) + "\nProvides: " + ", ".join(f"a (= {2 * k + 1})" for k in range(n // 2)))),
     "the explanation of one item of so many names beside as many that its package provides": (40_000, lambda n: explained(
@@ -365,7 +369,8 @@ ROWS = {
     "so many packages beside an essential one with one item of as many alternatives": (10_000, lambda n: strong(
         stanza("e", more="Essential: yes\n" + one_of(n)) + loose(n), "--essential")),
     "the classes of one entry told again and again": (8_000, lambda n: classes(
-        stanza("libx", more="Provides: " + ", ".join(["a (= 1)"] * n) + "\n") + stanza("p", more="Conflicts: " + ", ".join(f"a (>= {k})" for k in range(n)) + "\n"))),
+        stanza("libx", more="Provides: " + ", ".join(["a (= 1)"] * n) + "\n")
+        + stanza("p", more="Conflicts: " + ", ".join(f"a (>= {k})" for k in range(n)) + "\n"))),
     "the clauses of futures of so many entries": (8_000, lambda n: futures(many_entries(n))),
     "the clauses of futures of so many packages that ask for a version of one name": (40_000, lambda n: futures(asked_by_many(n)[0])),
     "the clauses of futures of so many packages in conflict with a version of one name": (40_000, lambda n: futures(rejecting_many(n)[0])),
@@ -449,13 +454,15 @@ def broken_chain(n):
 
 def broken_choice(n):
     """One package that needs one of so many, none of which can be installed."""
-    return "".join(stanza(f"b{k:06}", more="Depends: nowhere\n") for k in range(n)) + stanza("a", more="Depends: " + " | ".join(f"b{k:06}" for k in range(n)) + "\n")
+    asks = "Depends: " + " | ".join(f"b{k:06}" for k in range(n)) + "\n"
+    return "".join(stanza(f"b{k:06}", more="Depends: nowhere\n") for k in range(n)) + stanza("a", more=asks)
 
 
 def broken_choices(n):
     """So many packages that each need one of as many, all but one of which can't be installed."""
     asks = "Depends: " + " | ".join(f"b{k:06}" for k in range(n)) + "\n"
-    return "".join(stanza(f"b{k:06}", more="Depends: nowhere\n" if k != n // 2 else "") for k in range(n)) + "".join(stanza(f"p{k:06}", more=asks) for k in range(n))
+    choices = "".join(stanza(f"b{k:06}", more="Depends: nowhere\n" if k != n // 2 else "") for k in range(n))
+    return choices + "".join(stanza(f"p{k:06}", more=asks) for k in range(n))
 
 
 def needs_later(n):
@@ -471,7 +478,8 @@ def needs_later_of_pairs(n):
 
 def many_cuts(n):
     """So many packages of one source, whose versions above the top fall into 81 classes."""
-    return "".join(stanza(f"p{k:06}", more="Source: s\n") for k in range(n - 1)) + stanza("q", more="Depends: " + ", ".join(f"p000000 (<< {k})" for k in range(2, 42)) + "\n")
+    asks = "Depends: " + ", ".join(f"p000000 (<< {k})" for k in range(2, 42)) + "\n"
+    return "".join(stanza(f"p{k:06}", more="Source: s\n") for k in range(n - 1)) + stanza("q", more=asks)
 
 
 def asked_of_all(n):
@@ -494,7 +502,8 @@ LOADS = {
     "so many loose ones behind one that needs 1,100": (200_000, behind_a_large_one, {}),
     "so many broken ones behind one that needs 1,100": (200_000, lambda n: behind_a_large_one(n, "Depends: nowhere\n"), {}),
     "so many of one source": (200_000, one_source, {}),
-    "so many conflicts on a name that as many provide": (2_000, all_against_all, {kind: 2 for kind in ("health", "strong", "outdated", "challenged", "explain", "repair", "check")}),
+    "so many conflicts on a name that as many provide": (
+        2_000, all_against_all, {kind: 2 for kind in ("health", "strong", "outdated", "challenged", "explain", "repair", "check")}),
     "so many mixed ones": (200_000, mixed, {}),
     "a file of so many bytes": (268_435_456, of_bytes, {}),
     "a star in a file of so many bytes": (268_435_456, star_of_bytes, {}),
@@ -535,7 +544,9 @@ def load_rows():
                 yield f"strong on {told}", (1_000, lambda n, make=make: (["strong", "packages", "cert"], make(n), ""), 3)
                 yield f"strong on {told}, to the limit of a certificate", (size, lambda n, make=make: (["strong", "packages", "/dev/null"], make(n), ""), None)
                 continue
-            members = (lambda text: "".join(f"{line[9:]} 1\n" for line in text.split("\n") if line.startswith("Package: "))) if kind == "health" else (lambda text: "")
+            members = (lambda text: "")
+            if kind == "health":
+                members = (lambda text: "".join(f"{line[9:]} 1\n" for line in text.split("\n") if line.startswith("Package: ")))
 
             def row(n, words=words, make=make, members=members):
                 text = make(n)
@@ -543,8 +554,8 @@ def load_rows():
 
             yield f"{kind} on {told}", (size, row, powers.get(kind, 1))
             if kind in SWEEPS:
-                yield f"check of {kind} on {told}", (size, lambda n, make=make, kind=kind: (["check", "packages", "cert"], make(n), "", [kind, "packages", "cert"]),
-                                                     powers.get("check", 1))
+                checked = (lambda n, make=make, kind=kind: (["check", "packages", "cert"], make(n), "", [kind, "packages", "cert"]))
+                yield f"check of {kind} on {told}", (size, checked, powers.get("check", 1))
         for kind in ("explain", "repair"):
             yield from question_rows(told, size, make, [kind], powers.get(kind, 1), powers.get("check", 1))
     for told, (size, make, words, power) in QUESTIONS.items():
@@ -556,15 +567,19 @@ def load_rows():
         stanza("a", k, "Essential: yes\n") for k in range(n)) + stanza("p"), ""), 2)
     yield "classes on one stanza too many", (200_001, lambda n: (["classes", "packages"], mixed(n), ""), None)
     yield "classes on one byte too many", (268_435_457, lambda n: (["classes", "packages"], of_bytes(n), ""), None)
-    yield "check of one derived line too many", (16_000_001, lambda n: (["check", "packages", "list"], stanza("a", more="Depends: b\n"), header() + "d -1 0 1\n" * n), None)
-    yield "check of one literal too many", (8_000_000, lambda n: (["check", "packages", "list"], stanza("a", more="Depends: b\n") + "".join(stanza(f"b{k}") for k in range(8)),
+    yield "check of one derived line too many", (16_000_001, lambda n: (
+        ["check", "packages", "list"], stanza("a", more="Depends: b\n"), header() + "d -1 0 1\n" * n), None)
+    yield "check of one literal too many", (8_000_000, lambda n: (
+        ["check", "packages", "list"], stanza("a", more="Depends: b\n") + "".join(stanza(f"b{k}") for k in range(8)),
         header("plain", "9 9 1") + "d -1 2 3 4 5 6 7 8 0 1\n" * n + "d -1 0 1\n"), None)
     yield "health on a list of one byte too many", (268_435_457, lambda n: (["health", "packages", "list"], stanza("a"), "a 1" + "\n" * (n - 3)), None)
     yield "outdated on more variables than may be", (200_000, lambda n: (["outdated", "packages", "cert"], many_cuts(n), ""), None)
-    yield "repair on more clauses than may be", (200_000, lambda n: (["repair", "packages", "cert", "--most", "64", "--package", "p000000=1"], star(n), ""), None)
+    yield "repair on more clauses than may be", (200_000, lambda n: (
+        ["repair", "packages", "cert", "--most", "64", "--package", "p000000=1"], star(n), ""), None)
     yield "strong on more literals than may be", (8_000, lambda n: (["strong", "packages", "cert"], asked_of_all(n), ""), None)
     yield "explain on more literals than may be", (8_000, lambda n: (["explain", "packages", "cert", "--package", "p000000=1"], asked_of_all(n), ""), None)
-    yield "check of a line of one byte too many", (1_073_741_825, lambda n: (["check", "packages", "list"], stanza("a"), header("plain", "1 1 0") + "x" * (n - 1) + "\n"), None)
+    yield "check of a line of one byte too many", (1_073_741_825, lambda n: (
+        ["check", "packages", "list"], stanza("a"), header("plain", "1 1 0") + "x" * (n - 1) + "\n"), None)
 
 
 # Runs a program and prints its seconds of the processor, its most memory and its status. It is a process of its own, since the memory of the one

@@ -5,6 +5,7 @@ Usage: laws.py [--check]    --check ends with a fault where docs/LAWS.md is not 
 import os
 import re
 import sys
+import textwrap
 
 TOP = os.path.normpath(os.path.join(os.path.dirname(os.path.abspath(__file__)), ".."))
 LAW = re.compile(r"((?:^ *///.*\n)*)^pub fn (\w+)\(\)\s*\n?\s*ensures", re.M)
@@ -29,8 +30,9 @@ def page():
     for crate in crates:
         laws = list(laws_of(crate))
         if laws:
-            lines += [f"## {crate}\n", "| Law | What it says |", "|---|---|"]
-            lines += [f"| `{law}` (`src/{name}`) | {words[:1].upper()}{words[1:]} |" for law, name, words in laws]
+            lines.append(f"## {crate}\n")
+            for law, name, words in laws:
+                lines += textwrap.wrap(f"- `{law}` (`src/{name}`): {words[:1].upper()}{words[1:]}", 150, subsequent_indent="  ", break_on_hyphens=False)
             lines.append("")
     return "\n".join(lines)
 

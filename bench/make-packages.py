@@ -8,10 +8,13 @@ import sys
 count = int(sys.argv[1])
 random.seed(int(sys.argv[2]) if len(sys.argv) > 2 else 1)
 
-names = [random.choice(("lib", "python3-", "ruby-", "golang-", "r-cran-", "librust-", "")) + "".join(random.choices("abcdefghijklmnopqrstuvwxyz", k=random.randrange(3, 11))) + random.choice(("", "", "1", "-dev", "-data", "-2.0", "++6")) for _ in range(count)]
+names = [random.choice(("lib", "python3-", "ruby-", "golang-", "r-cran-", "librust-", ""))
+         + "".join(random.choices("abcdefghijklmnopqrstuvwxyz", k=random.randrange(3, 11)))
+         + random.choice(("", "", "1", "-dev", "-data", "-2.0", "++6")) for _ in range(count)]
 
 def version():
-    text = ".".join(str(random.randrange(30)) for _ in range(random.choice((1, 2, 3, 3)))) + random.choice(("", "", "", "~", "+dfsg")) + random.choice(("", "-1", "-2+b1"))
+    text = (".".join(str(random.randrange(30)) for _ in range(random.choice((1, 2, 3, 3))))
+            + random.choice(("", "", "", "~", "+dfsg")) + random.choice(("", "-1", "-2+b1")))
     return (str(random.randrange(4)) + ":" if random.random() < 0.06 else "") + text
 
 def atom(operators):

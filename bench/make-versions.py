@@ -9,7 +9,8 @@ count = int(sys.argv[1])
 random.seed(int(sys.argv[2]) if len(sys.argv) > 2 else 1)
 
 def number():
-    return str(random.choice((random.randrange(10), random.randrange(40), random.randrange(20080101, 20231231))) if random.random() < 0.05 else random.randrange(30))
+    return str(random.choice((random.randrange(10), random.randrange(40), random.randrange(20080101, 20231231)))
+               if random.random() < 0.05 else random.randrange(30))
 
 def version():
     text = ".".join(number() for _ in range(random.choice((1, 2, 2, 3, 3, 3, 4))))

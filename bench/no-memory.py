@@ -61,7 +61,8 @@ FILES = {
     "two that exclude each other": stanza("a", "1", "Depends: b") + "\n" + stanza("b", "1", "Conflicts: a"),
     "a library that may go too far": stanza("libx") + "\n" + stanza("p", "1", "Depends: libx (<< 2)"),
     "two of which one needs the other": stanza("a", "1", "Depends: b") + "\n" + stanza("b"),
-    "an essential one": stanza("base", "1", "Essential: yes") + "\n" + stanza("p", "1", "Conflicts: base (>= 2)") + "\n" + stanza("a", "1", "Depends: nowhere | p"),
+    "an essential one": "\n".join([
+        stanza("base", "1", "Essential: yes"), stanza("p", "1", "Conflicts: base (>= 2)"), stanza("a", "1", "Depends: nowhere | p")]),
     "sources, entries and new names": "\n".join([
         stanza("liba", "1:1.0-1+b1", "Source: src (1:1.0-1)", "Provides: abi (= 1:1.0-1+b1), v, other:any (= 3)"),
         stanza("libb", "1:1.0-1", "Source: src", "Depends: liba (>= 1:1.0), foo (<< 2) | bar", "Pre-Depends: abi (<= 2:0)", "Breaks: v (>= 2)"),
@@ -75,7 +76,8 @@ KINDS = ("strong", "outdated", "challenged")
 CHECKS = {**dict.fromkeys(KINDS, "check"), "explain": "check-explain", "repair": "check-repair"}
 LATER = {"a moved library and a new name": stanza("libx", "2") + "\n" + stanza("foo"), "no future": stanza("libx", "1", "Depends: p")}
 JOURNALS = {
-    "an upload, a removal and a new name": b"= upload libx 2\nPackage: libx\nVersion: 2\n\n= new\nPackage: foo\nVersion: 1\nDepends: libx, a | b\n\n= removal foo\n",
+    "an upload, a removal and a new name":
+        b"= upload libx 2\nPackage: libx\nVersion: 2\n\n= new\nPackage: foo\nVersion: 1\nDepends: libx, a | b\n\n= removal foo\n",
     "a step that is refused": b"= upload libx 2\nPackage: libx\nVersion: 2\n\n= upload libx 2\n",
     "nothing": b"",
 }
@@ -96,14 +98,16 @@ def rows():
                 limit = ["--limit", "1"] if told.startswith("three") else []
                 for old in (None, b"a text that lay there before\n" * 200):
                     if old is None or told.startswith("a library"):
-                        yield f"{' '.join([kind, *mode])} of {told}" + (", over another file" if old else ""), [kind, "/packages", "/cert", *mode, *limit], {"packages": packages, "cert": old}
+                        name = f"{' '.join([kind, *mode])} of {told}" + (", over another file" if old else "")
+                        yield name, [kind, "/packages", "/cert", *mode, *limit], {"packages": packages, "cert": old}
         yield f"classes of {told}", ["classes", "/packages"], {"packages": packages}
         for kind in ("explain", "repair"):
             yield f"{kind} of {told}", [kind, "/packages", "/cert", "--package", last_named(text)], {"packages": packages}
         for name, text in LISTS.items():
             yield f"health of {name} in {told}", ["health", "/packages", "/list"], {"packages": packages, "list": text}
     two = FILES["two of which one needs the other"].encode()
-    for told, text in (("ten lines", TEN_LINES), ("ten lines with a bad one", TEN_LINES.replace(b"f 1\n", b"f\n")), ("nine lines", TEN_LINES[:-2]), ("a word", b"word"), ("nothing", b"")):
+    for told, text in (("ten lines", TEN_LINES), ("ten lines with a bad one", TEN_LINES.replace(b"f 1\n", b"f\n")),
+                       ("nine lines", TEN_LINES[:-2]), ("a word", b"word"), ("nothing", b"")):
         yield f"check of {told}", ["check", "/packages", "/cert"], {"packages": two, "cert": text}
     library = FILES["a library that may go too far"].encode()
     for told, text in LATER.items():

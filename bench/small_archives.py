@@ -78,14 +78,16 @@ def related(draw):
     while len(pool) < 8:
         text = draw.choice(sorted(pool))
         at, some = draw.randint(0, len(text)), draw.choice("0019a.~+-A")
-        text = draw.choice([text[:at] + some + text[at:], text[:at] + some + text[at + 1:], text[:at] + text[at + 1:], text + some, text + "-" + some, text + "+b1"])
+        text = draw.choice([text[:at] + some + text[at:], text[:at] + some + text[at + 1:], text[:at] + text[at + 1:],
+                            text + some, text + "-" + some, text + "+b1"])
         pool |= {text} if sc.read_version(text.encode())[0] else set()
     return sorted(pool)
 
 
 # Names of which many are alike in their first bytes.
 FRONT = "lib-a-name-of-16"
-ALIKE = [FRONT[:15], FRONT, FRONT + "-", FRONT + "0", FRONT + "a", FRONT + "a.", FRONT + "-24bytes", FRONT + "-24bytes-", FRONT + "-24bytesa", FRONT[:15] + "+", FRONT[:15] + "a", FRONT[:8], FRONT[:7] + "A"]
+ALIKE = [FRONT[:15], FRONT, FRONT + "-", FRONT + "0", FRONT + "a", FRONT + "a.", FRONT + "-24bytes", FRONT + "-24bytes-", FRONT + "-24bytesa",
+         FRONT[:15] + "+", FRONT[:15] + "a", FRONT[:8], FRONT[:7] + "A"]
 
 
 class Shape:

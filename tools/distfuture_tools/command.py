@@ -28,8 +28,9 @@ class Fault(Exception):
 
 def parser_of(name: str, description: str) -> argparse.ArgumentParser:
     """A parser of the words of a tool; what stands behind the description is kept as it is written."""
+    called = os.path.basename(sys.argv[0])      # distfuture-top, where it is installed
     return argparse.ArgumentParser(
-        prog=name, description=description, formatter_class=argparse.RawDescriptionHelpFormatter,
+        prog=called if called.endswith(f"-{name}") else name, description=description, formatter_class=argparse.RawDescriptionHelpFormatter,
         epilog="Exit statuses: 0 done; 1 something was found or is undecided, where the tool's page says so; 2 wrong words; "
                "3 a bad file;\n4 a certificate is refused; 5 and 6 read and write faults; 7 no memory; 20 the program failed.")
 

@@ -67,7 +67,7 @@ def fetch_of_apt(place: str, path: str) -> None:
         files |= set(subprocess.run(words, capture_output=True, text=True, check=True).stdout.split("\n")) - {""}
     if len(files) != 1:
         told = f"apt has {len(files) or 'no'} lists of {suite}/{component} for {architecture}"
-        raise Fault(f"{told}; `apt-get update` gets them, `join` joins several", READ_FAULT)
+        raise Fault(f"{told}; `apt-get update` gets those of its sources.list, `join` joins several", READ_FAULT)
     with open(path, "wb") as out:
         if subprocess.run([APT_HELPER, "cat-file", files.pop()], stdout=out, check=False).returncode:
             raise Fault(f"apt's list of {suite}/{component} could not be read", READ_FAULT)

@@ -7,6 +7,7 @@ import subprocess
 from .command import PROGRAM, Fault
 from .progress import Progress
 
+NO_PROGRAM = "there is no program distfuture: name it by --program or DISTFUTURE, or build it as the README says"
 BUILT = os.path.join(os.path.dirname(__file__), "..", "..", "crates", "distfuture", "out", "distfuture")
 
 
@@ -25,7 +26,7 @@ def find_program(given: str | None = None) -> str | None:
 def program_or_fault(given: str | None) -> str:
     program = find_program(given)
     if program is None:
-        raise Fault("there is no program distfuture: name it by --program or DISTFUTURE", PROGRAM)
+        raise Fault(NO_PROGRAM, PROGRAM)
     return program
 
 

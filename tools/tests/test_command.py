@@ -10,7 +10,9 @@ from .support import require, stored, text_of
 require("apt_pkg", "debian")
 
 FOLDER = os.path.dirname(os.path.dirname(os.path.abspath(__file__)))
-TOOLS = sorted(name for name in os.listdir(FOLDER) if name not in ("setup", "test", "install", "deb") and os.access(f"{FOLDER}/{name}", os.X_OK) and not os.path.isdir(f"{FOLDER}/{name}"))
+NO_TOOLS = ("setup", "test", "install", "deb")
+TOOLS = sorted(name for name in os.listdir(FOLDER)
+               if name not in NO_TOOLS and os.access(f"{FOLDER}/{name}", os.X_OK) and not os.path.isdir(f"{FOLDER}/{name}"))
 
 
 def run_tool(name: str, *words: str, **options) -> subprocess.CompletedProcess:
@@ -28,6 +30,12 @@ class Pages(unittest.TestCase):
                 page = text_of(f"{FOLDER}/man/{name}.1").replace("\\-", "-")
                 for option in set(re.findall(r"--[a-z]+", done.stdout)) - {"--help"}:
                     self.assertIn(option, page)
+
+
+    def test_the_others_have_help(self):
+        for name in NO_TOOLS:
+            done = subprocess.run([f"{FOLDER}/{name}", "--help"], capture_output=True, text=True, check=False)
+            self.assertEqual((done.returncode, done.stderr, done.stdout != ""), (0, "", True), name)
 
 
 class Statuses(unittest.TestCase):

@@ -56,7 +56,8 @@ class Trees(unittest.TestCase):
         self.assertEqual(tree_of("desktop"), DESKTOP)
 
     def test_what_nothing_serves(self):
-        self.assertEqual(tree_of("lost"), "lost=1 can't be installed\n└─ needs nobody\n   └─ nothing serves this: no package is named nobody or provides it\n")
+        self.assertEqual(tree_of("lost"), "lost=1 can't be installed\n└─ needs nobody\n"
+                                          "   └─ nothing serves this: no package is named nobody or provides it\n")
         self.assertIn("nothing serves this: libx is there at 1\n", tree_of("old"))
 
     def test_what_can_be_installed(self):

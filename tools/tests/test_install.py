@@ -42,6 +42,8 @@ class Install(Files):
         report = f"{FOLDER}/tests/data/today.challenged"
         done = call(f"{self.installed()}/bin/distfuture-diff", report, report, PYTHONDONTWRITEBYTECODE="1")
         self.assertEqual((done.returncode, done.stdout, done.stderr), (0, "", ""))
+        done = call(f"{self.path('prefix')}/bin/distfuture-why-all", "--help", PYTHONDONTWRITEBYTECODE="1")
+        self.assertTrue(done.stdout.startswith("usage: distfuture-why-all "), done.stdout)
 
     def test_pages_have_their_new_names(self):
         page = text_of(f"{self.installed()}/share/man/man1/distfuture-why-all.1")
@@ -78,8 +80,9 @@ class Deb(Files):
     def test_what_it_has(self):
         package = self.package()
         paths = set(re.findall(r"\./(usr/\S*[^/\s])(?: ->|$)", call("dpkg-deb", "--contents", package).stdout, re.MULTILINE))
-        for path in ("bin/distfuture", "bin/distfuture-coming", "share/man/man1/distfuture.1.gz", "share/doc/distfuture/README.md", "share/doc/distfuture/docs/USING.md",
-                     "share/zsh/vendor-completions/_distfuture", "share/bash-completion/completions/distfuture", "share/doc/distfuture/copyright"):
+        for path in ("bin/distfuture", "bin/distfuture-coming", "share/man/man1/distfuture.1.gz", "share/doc/distfuture/README.md",
+                     "share/doc/distfuture/docs/USING.md", "share/zsh/vendor-completions/_distfuture", "share/bash-completion/completions/distfuture",
+                     "share/doc/distfuture/copyright"):
             self.assertIn(f"usr/{path}", paths)
         self.assertFalse([path for path in paths if "__pycache__" in path])
         self.assertRegex(call("dpkg-deb", "--field", package, "Version").stdout, r"^1\.0")

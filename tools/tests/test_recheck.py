@@ -5,9 +5,10 @@ import shutil
 import subprocess
 import tempfile
 import unittest
+from unittest import mock
 
 from distfuture_tools import recheck
-from distfuture_tools.checker import version
+from distfuture_tools.checker import limits, version
 from distfuture_tools.checker.checking import Checker
 from distfuture_tools.checker.packages import Refusal, read_packages
 from distfuture_tools.command import Fault
@@ -117,12 +118,69 @@ class Documents(unittest.TestCase):
 
     def test_what_is_undecided_needs_new_lines(self):
         """At limit 1 the question is left open by one derived line, which is new where propagation does not find it."""
-        packages = b"Package: a\nVersion: 1\nDepends: b | c\n\nPackage: b\nVersion: 1\nDepends: d\n\nPackage: c\nVersion: 1\nDepends: d\n\nPackage: d\nVersion: 1\n"
+        packages = (b"Package: a\nVersion: 1\nDepends: b | c\n\nPackage: b\nVersion: 1\nDepends: d\n\n"
+                    b"Package: c\nVersion: 1\nDepends: d\n\nPackage: d\nVersion: 1\n")
         front = "distfuture-certificate 1 strong plain 1 4 4 3\nq 1\n"
         rest = "u\ny 1\nq 2\nm 2 4\nq 2 -4\nf 2\ns 2 1 0 4 0\nq 3\nm 3 4\nq 3 -4\nf 3\ns 3 2 0 4 0\nq 4\nm 4\ns 4 3 0 0\ne\n"
         self.assertTrue(judged(packages, front + "d 4 -1 0 2 3 1\n" + rest).is_undecided())
         with self.assertRaisesRegex(Refusal, "at line 4: NotNew"):
             judged(packages, front + "d 2 3 -1 0 1\n" + rest)
+
+
+class Limits(unittest.TestCase):
+    """What is too large for the checker, at limits that small archives pass."""
+
+    EXPLAIN = (b"Package: a\nVersion: 1\nDepends: b\n\nPackage: b\nVersion: 1\nConflicts: a\n",
+               "distfuture-explain 1 10000 2 2 1\nq 1 3 4\nf 1 2\nq 1 4\nm 1 4\nq 1 3\nm 1 2 3\ne\n")
+    REPAIR = LIBRARY.replace(b"<<", b"="), "distfuture-repair 1 10000 2 15 23 2 0\nq 3 -15\nf 12 7 18 21 22\nm 3 6 7 12 14 15\ne\n"
+    DERIVED = TWO, STRONG.replace("q 1\n", "q 1\nd -1 2 0 1\nd -1 2 0 1\n", 1)
+
+    def check(self, files, name, least):
+        """The least limit that the files keep, and what is said where it is one less."""
+        with mock.patch.object(limits, name, least):
+            judged(*files)
+        text = {"VARIABLES": "Variables", "CLAUSES": "Clauses", "LITERALS": "Literals", "LINES": "Lines", "LINE_LITERALS": "LineLiterals"}[name]
+        with mock.patch.object(limits, name, least - 1), self.assertRaises(Refusal) as raised:
+            judged(*files)
+        self.assertEqual((raised.exception.status, raised.exception.text), (8, f"too large: {text}"))
+
+    def test_clauses_of_the_present(self):
+        two = b"Package: a\nVersion: 1\n\nPackage: a\nVersion: 2\nConflicts: a, b\n\nPackage: b\nVersion: 1\nConflicts: a\n"
+        files = two, "distfuture-certificate 1 strong plain 1 3 3 3\nq 1\nm 1\ns 1 1 0 0\nq 2\nm 2\ns 2 2 0 0\nq 3\nm 3\ns 3 3 0 0\ne\n"
+        self.check(files, "CLAUSES", 3)
+        self.check(files, "LITERALS", 6)
+        with mock.patch.object(limits, "CLAUSES", 1):       # the pairs in conflict alone are more: they are not all kept
+            self.assertRaisesRegex(Refusal, "too large: Clauses", judged, *files)
+
+    def test_futures(self):
+        for name, least in (("VARIABLES", 11), ("CLAUSES", 16), ("LITERALS", 33)):
+            self.check((LIBRARY, CHALLENGED), name, least)
+
+    def test_explanations_and_repairs(self):
+        for name, least in (("VARIABLES", 4), ("CLAUSES", 2), ("LITERALS", 6)):
+            self.check(self.EXPLAIN, name, least)
+        for name, least in (("VARIABLES", 15), ("CLAUSES", 23), ("LITERALS", 46)):
+            self.check(self.REPAIR, name, least)
+
+    def test_derived_lines(self):
+        self.check(self.DERIVED, "LINES", 2)
+        self.check(self.DERIVED, "LINE_LITERALS", 4)
+        packages, cert = self.DERIVED
+        with mock.patch.object(limits, "LINES", 1), self.assertRaisesRegex(Refusal, "at line 4: BadLine"):
+            judged(packages, edited(cert, 4, "d 1 0 1"))
+
+    def test_clauses_come_before_the_numbers_of_the_first_line(self):
+        packages, cert = self.REPAIR
+        with mock.patch.object(limits, "CLAUSES", 22):
+            self.assertRaisesRegex(Refusal, "too large: Clauses", judged, packages, edited(cert, 1, "distfuture-repair 1 10000 3 15 23 2 0"))
+            self.assertRaisesRegex(Refusal, "at line 1: BadHeader", judged, packages, edited(cert, 1, "distfuture-repair 1 10000 2 15 23 2 65"))
+
+    def test_numbers_out_of_range(self):
+        for (packages, cert), fronts in ((self.EXPLAIN, ("explain 1 0 2 2 1", "explain 1 1000001 2 2 1", "explain 1 10000 2 2 0", "explain 1 10000 2 2 3")),
+                                         (self.REPAIR, ("repair 1 10000 2 15 23 0 0", "repair 1 10000 2 15 23 3 0", "repair 1 10000 2 15 23 2 65"))):
+            for front in fronts:
+                with self.subTest(front):
+                    self.assertRaisesRegex(Refusal, "at line 1: BadHeader", judged, packages, edited(cert, 1, f"distfuture-{front}"))
 
 
 class Versions(unittest.TestCase):

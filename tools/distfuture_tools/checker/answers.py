@@ -3,6 +3,7 @@ from typing import Iterator
 
 from .derivation import Models
 from .judging import Judge, Question
+from .limits import guard_variables, room_for_inputs
 from .lines import Header
 from .matching import Clause, Present
 from .packages import Repository
@@ -45,7 +46,10 @@ class ExplanationJudge(AnswerJudge):
 
     def __init__(self, present: Present, header: Header) -> None:
         packages, relations = len(present.repository.packages), len(present.clauses)
-        clauses = [(*clause, -(packages + number)) for number, clause in enumerate(present.clauses, 1)]
+        guard_variables(packages + relations)
+        room, clauses = room_for_inputs(), [(*clause, -(packages + number)) for number, clause in enumerate(present.clauses, 1)]
+        for clause in clauses:
+            room.take(len(clause))
         super().__init__(clauses, packages + relations, header.limit, header.numbers[2], present.repository)
         self.present, self.packages, self.relations = present, packages, relations
         self.selectors: frozenset[int] | None = None       # of the last refuted question of the package and selectors alone
@@ -97,6 +101,7 @@ class RepairJudge(AnswerJudge):
         self.space, self.most = space, header.numbers[4]
         self.base, self.count = len(space.meanings), len(space.at)
         variables = self.base + self.count * (2 + self.most)
+        guard_variables(variables)
         super().__init__([*space.clauses, *self.counter()], variables, header.limit, header.numbers[3], space.repository)
         self.present = self.package + 1
         self.closed: dict[frozenset[int], set[bool]] = {}      # questions, and whether they were refuted
@@ -110,6 +115,11 @@ class RepairJudge(AnswerJudge):
         return self.base + self.count + (cluster - 1) * (self.most + 1) + bound + 1
 
     def counter(self) -> Iterator[Clause]:
+        for clause in self.counter_clauses():
+            self.space.room.take(len(clause))
+            yield clause
+
+    def counter_clauses(self) -> Iterator[Clause]:
         for cluster, variables in enumerate(self.space.at, 1):
             for variable in variables:
                 yield -variable, self.moved(cluster)

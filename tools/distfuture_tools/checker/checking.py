@@ -50,16 +50,17 @@ class Checker:
         return CertificateJudge(subject, header.limit)
 
     def explanation_judge(self, header: Header) -> ExplanationJudge:
-        present, (packages, relations, package) = Present(self.repository, False), header.numbers
-        guard((packages, relations) == (len(self.repository.packages), len(present.clauses)) and 1 <= package <= packages)
-        return ExplanationJudge(present, header)
+        packages, relations, package = header.numbers
+        judge = ExplanationJudge(Present(self.repository, False), header)
+        guard((packages, relations) == (judge.packages, judge.relations) and 1 <= package <= packages)
+        return judge
 
     def repair_judge(self, header: Header) -> RepairJudge:
         packages, variables, clauses, package, most = header.numbers
+        guard(most <= 64)
         space = Space(self.repository.newest(), False)
-        guard(packages == len(space.repository.packages) and 1 <= package <= packages and most <= 64)
         judge = RepairJudge(space, header)
-        guard((variables, clauses) == (judge.variables, len(judge.inputs)))
+        guard((packages, variables, clauses) == (len(space.repository.packages), judge.variables, len(judge.inputs)) and 1 <= package <= packages)
         return judge
 
 

@@ -2,6 +2,7 @@
 from typing import Callable, Iterable, Protocol, Sequence
 
 from .derivation import Cones, Propagation, follows, is_new
+from .limits import room_for_lines
 from .lines import is_too_great, record_of
 from .matching import Clause
 from .packages import Refusal
@@ -35,6 +36,7 @@ class Judge:
         self.undecided: set[Question] = set()
         self.cones: Cones | None = None
         self.propagation = Propagation(self.clauses)
+        self.room = room_for_lines()
         self.is_ended = False
         self.steps = {"q": self.take_question, "d": self.take_derived, "f": self.take_refutation, "m": self.take_model,
                       "u": self.take_undecided, "e": self.take_end}
@@ -62,6 +64,7 @@ class Judge:
             return "OutOfRange"
         if not self.follows(set(literals), hints):
             return self.fault_of_hints(hints)
+        self.room.take(len(literals))
         self.clauses.append(tuple(literals))
         if self.proof:
             self.proof.derived(self.clauses[-1], hints)

@@ -1,6 +1,8 @@
 """Which packages match an atom, and the relations of the present: the clauses of kind strong in their order (CERTIFICATES.md)."""
 from typing import Iterable, NamedTuple
 
+from . import limits
+from .limits import Room, room_for_inputs
 from .packages import Package, Repository
 from .relation import Atom, Item, spelled
 
@@ -69,14 +71,21 @@ class Matcher:
             return self.of(item[0])
         return sorted({number for atom in item for number in self.of(atom)})
 
-    def conflicts(self) -> list[tuple[int, int]]:
-        """All pairs in conflict, by rising numbers."""
-        pairs = set()
+    def conflicts(self, room: Room) -> dict[int, list[int]]:
+        """Of each package the later ones that it is in conflict with. One may stand there twice, where each of both says so.
+
+        Each pair is a clause. Where they are too many for the room, this is told before all are kept.
+        """
+        later: dict[int, list[int]] = {}
+        count = 0
         for number, package in enumerate(self.repository.packages, 1):
-            for other in (other for atom in package.conflicts for other in self.of(atom)):
-                if other != number:
-                    pairs.add((min(number, other), max(number, other)))
-        return sorted(pairs)
+            others = {other for atom in package.conflicts for other in self.of(atom)} - {number}
+            for other in others:
+                later.setdefault(min(number, other), []).append(max(number, other))
+            count += len(others)
+            while count > 2 * limits.CLAUSES:
+                room.take(2)
+        return later
 
 
 def needs_of(matcher: Matcher) -> Iterable[tuple[Needs, list[int]]]:
@@ -88,13 +97,12 @@ def needs_of(matcher: Matcher) -> Iterable[tuple[Needs, list[int]]]:
                 yield Needs(number, item), found
 
 
-def same_names(packages: list[Package]) -> Iterable[tuple[int, int]]:
-    """All pairs of one name; packages stand in the order of names."""
-    for number, package in enumerate(packages, 1):
-        other = number + 1
-        while other <= len(packages) and packages[other - 1].name == package.name:
-            yield number, other
-            other += 1
+def later_of_name(number: int, packages: list[Package]) -> range:
+    """The later packages of the name of one; packages stand in the order of names."""
+    end = number + 1
+    while end <= len(packages) and packages[end - 1].name == packages[number - 1].name:
+        end += 1
+    return range(number + 1, end)
 
 
 def essential_names(repository: Repository) -> list[bytes]:
@@ -106,15 +114,18 @@ class Present:
 
     def __init__(self, repository: Repository, essential: bool) -> None:
         self.repository, self.clauses, self.relations = repository, list[Clause](), list[Relation]()
-        matcher = Matcher(repository)
+        self.room, matcher = room_for_inputs(), Matcher(repository)
         for needs, found in needs_of(matcher):
             self.add(needs, (-needs.package, *found))
-        for first, second in sorted({*matcher.conflicts(), *same_names(repository.packages)}):
-            self.add(Apart(first, second), (-first, -second))
+        conflicts = matcher.conflicts(self.room)
+        for first in range(1, len(repository.packages) + 1):
+            for second in sorted({*conflicts.get(first, ()), *later_of_name(first, repository.packages)}):
+                self.add(Apart(first, second), (-first, -second))
         if essential:
             for name in essential_names(repository):
                 self.add(Required(name), tuple(number for number in matcher.by_name[name] if repository.packages[number - 1].name == name))
 
     def add(self, relation: Relation, clause: Clause) -> None:
+        self.room.take(len(clause))
         self.relations.append(relation)
         self.clauses.append(clause)

@@ -2,6 +2,7 @@
 from typing import NamedTuple
 
 from .clusters import Classes, VersionClass, has_own_version
+from .limits import guard_variables, room_for_inputs
 from .matching import Clause, Matcher, Needs, Required, essential_names, needs_of
 from .packages import Repository
 from .relation import Atom, Item
@@ -78,6 +79,7 @@ class Space:
         self.cluster_of: list[int] = [NO_CLUSTER] * (len(repository.packages) + 1)
         self.clauses: list[Clause] = []
         self.sources: list[Source] = []
+        self.room = room_for_inputs()
         self.matcher = Matcher(repository)
         self.found: dict[Atom, list[int]] = {}
         self.make_variables()
@@ -95,6 +97,7 @@ class Space:
 
     def variable(self, meaning: Meaning) -> int:
         self.meanings.append(meaning)
+        guard_variables(len(self.meanings))
         return len(self.meanings)
 
     def make_variables(self) -> None:
@@ -159,6 +162,7 @@ class Space:
     # ---- clauses
 
     def add(self, source: Source, *literals: int) -> None:
+        self.room.take(len(literals))
         self.sources.append(source)
         self.clauses.append(literals)
 
@@ -187,11 +191,9 @@ class Space:
     def make_demands(self) -> None:
         for needs, _ in needs_of(self.matcher):
             self.add(needs, -(needs.package + 1), *self.item_matches(needs.item))
-        pairs: dict[int, set[int]] = {}
-        for first, second in self.matcher.conflicts():
-            pairs.setdefault(first + 1, set()).add(second + 1)
+        conflicts = self.matcher.conflicts(self.room)
         for number, package in enumerate(self.repository.packages, 1):
-            others = pairs.get(number + 1, set())
+            others = {other + 1 for other in conflicts.get(number, ())}
             others |= {variable for atom in package.conflicts for variable, _, name in self.later_matches(atom) if name != package.name}
             for variable in sorted(others):
                 self.add(Against(number, variable), -(number + 1), -variable)

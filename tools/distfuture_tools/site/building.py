@@ -5,7 +5,7 @@ import os
 from ..archive import guard_architectures, newest, packages_of
 from ..coming import Breaking, breaking_uploads
 from ..files import hash_of, sizes_below
-from ..program import find_program
+from ..program import NO_PROGRAM, find_program
 from ..reports import name_of
 from ..uploads import uploads_of
 from .answers import Asking, write_answers
@@ -71,6 +71,6 @@ def build(asked: argparse.Namespace, paths: dict[str, str], folder: str) -> str:
     write_pages(overview, folder)
     told = [f"{len(rows)} packages, {len(data.sources)} sources, {len(answers)} explained, {sum(sizes_below(folder)) / 1e6:.0f} MB"]
     if unexplained:
-        reason = "--most" if program else "there is no program distfuture: name it by --program or DISTFUTURE"
+        reason = "--most" if program else NO_PROGRAM
         told.append(f"not explained: {len(unexplained)} ({reason})")
     return "\n".join(told)
