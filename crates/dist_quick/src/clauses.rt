@@ -1,5 +1,6 @@
 //! What clauses are under the literals of a trail.
 
+use crate::shunned::Shunned;
 use crate::trail::{Trail, Truth};
 use dist_clause::Lit;
 use dist_derive::Log;
@@ -61,27 +62,82 @@ pub(crate) fn look_at(log: &Log, trail: &Trail, number: u32) -> Look {
     look
 }
 
-/// The last unset literal of a clause.
-pub(crate) fn last_unset(log: &Log, trail: &Trail, number: u32) -> Option<Lit> {
-    for literal in clause_of(log, number).iter().rev() {
-        if trail.truth(*literal) == Truth::Unset {
-            return Some(*literal);
-        }
-    }
-    None
+/// An alternative that may be decided.
+#[derive(Clone, Copy, Debug)]
+struct Choice {
+    literal: Lit,
+    is_shunned: bool,
 }
 
-/// The alternative that is tried first: the unset literal with the highest variable.
-pub(crate) fn highest_unset(log: &Log, trail: &Trail, number: u32) -> Option<Lit> {
-    let mut best = None;
-    let mut highest = 0;
-    for literal in clause_of(log, number) {
-        if trail.truth(*literal) == Truth::Unset && literal.variable() > highest {
-            highest = literal.variable();
-            best = Some(*literal);
+impl Choice {
+    fn new(literal: Lit, shunned: &Shunned<'_>) -> Choice {
+        Choice {
+            literal,
+            is_shunned: shunned.has(literal.variable()),
         }
     }
-    best
+
+    /// The one that is tried first, of this and perhaps another one.
+    fn or(self, other: Option<Choice>) -> Choice {
+        match other {
+            Some(other) if other.is_before(self) => other,
+            _ => self,
+        }
+    }
+
+    /// Whether this is tried before another one: the one that is not shunned, or else the one with the higher variable.
+    fn is_before(self, other: Choice) -> bool {
+        if self.is_shunned == other.is_shunned {
+            self.literal.variable() > other.literal.variable()
+        } else {
+            other.is_shunned
+        }
+    }
+}
+
+/// So many alternatives of a long clause are looked at for one that is not shunned.
+const ALTERNATIVES: usize = 32;
+
+/// The alternative of a long clause that is tried first: the last unset literal that is not shunned, where it is among the last
+/// ones, or else the last unset literal.
+pub(crate) fn last_unset(
+    log: &Log,
+    trail: &Trail,
+    number: u32,
+    shunned: &Shunned<'_>,
+) -> Option<Lit> {
+    let mut last = None;
+    let mut left = ALTERNATIVES;
+    for literal in clause_of(log, number).iter().rev() {
+        if trail.truth(*literal) != Truth::Unset {
+            continue;
+        }
+        if !shunned.has(literal.variable()) {
+            return Some(*literal);
+        }
+        last = last.or(Some(*literal));
+        left = left.saturating_sub(1);
+        if left == 0 {
+            break;
+        }
+    }
+    last
+}
+
+/// The alternative that is tried first, of those that are unset.
+pub(crate) fn first_unset(
+    log: &Log,
+    trail: &Trail,
+    number: u32,
+    shunned: &Shunned<'_>,
+) -> Option<Lit> {
+    let mut best = None;
+    for literal in clause_of(log, number) {
+        if trail.truth(*literal) == Truth::Unset {
+            best = Some(Choice::new(*literal, shunned).or(best));
+        }
+    }
+    best.map(|choice| choice.literal)
 }
 
 /// Whether a clause is looked at before any assumption: it has fewer than two literals, or none that is negative.

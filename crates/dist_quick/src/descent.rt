@@ -5,6 +5,7 @@ use crate::clauses::Look;
 use crate::forward::{Mark, State};
 use crate::kept::Kept;
 use crate::question::Guess;
+use crate::shunned::Shunned;
 use crate::trail::{Trail, Truth};
 use dist_clause::Lit;
 use dist_derive::Log;
@@ -49,9 +50,10 @@ impl Descent {
         kept: &mut Kept,
         roots: &[u32],
         assumptions: &[Lit],
+        shunned: &Shunned<'_>,
     ) -> Result<Guess, AllocError> {
         self.give(assumptions, true);
-        let guess = self.go(log, kept, roots, assumptions);
+        let guess = self.go(log, kept, roots, assumptions, shunned);
         self.give(assumptions, false);
         self.levels.clear();
         guess
@@ -70,12 +72,13 @@ impl Descent {
         kept: &mut Kept,
         roots: &[u32],
         assumptions: &[Lit],
+        shunned: &Shunned<'_>,
     ) -> Result<Guess, AllocError> {
         if let Some(number) = kept.assume(log, roots, assumptions)? {
             let number = first_denial(&kept.state.trail, assumptions).unwrap_or(number);
             return self.refute(log, &kept.state, number);
         }
-        self.descend(log, &mut kept.state)
+        self.descend(log, &mut kept.state, shunned)
     }
 
     /// The hints that lead to a false clause, where they rest on the assumptions alone.
@@ -87,7 +90,12 @@ impl Descent {
     }
 
     /// Takes alternatives of the open clauses, one after another. Each step sees to a clause or takes a decision back.
-    fn descend(&mut self, log: &Log, state: &mut State) -> Result<Guess, AllocError> {
+    fn descend(
+        &mut self,
+        log: &Log,
+        state: &mut State,
+        shunned: &Shunned<'_>,
+    ) -> Result<Guess, AllocError> {
         let mut tries = TRIES;
         let mut place = 0;
         let mut conflict = None;
@@ -103,7 +111,7 @@ impl Descent {
                 place = level.open;
                 conflict = self.take_back(log, state, level, number)?;
             } else if let Some(number) = state.open_clause(place) {
-                conflict = self.choose(log, state, place, number)?;
+                conflict = self.choose(log, state, place, number, shunned)?;
                 place = place.saturating_add(1);
             } else {
                 return Ok(Guess::Model);
@@ -136,13 +144,14 @@ impl Descent {
         state: &mut State,
         open: usize,
         number: u32,
+        shunned: &Shunned<'_>,
     ) -> Result<Option<u32>, AllocError> {
         match state.ask(log, open, number) {
             Look::Rests => return Ok(None),
             Look::Conflict => return Ok(Some(number)),
             Look::Unit(literal) => state.trail.set(literal, number)?,
             Look::Open => {
-                if let Some(decision) = state.choice(log, open, number) {
+                if let Some(decision) = state.choice(log, open, number, shunned) {
                     self.levels.push(Level {
                         start: state.mark(),
                         open,

@@ -20,6 +20,7 @@ mod kept;
 mod long;
 mod open;
 mod question;
+mod shunned;
 mod trail;
 
 pub use question::{Guess, Quick};
