@@ -62,36 +62,13 @@ pub(crate) fn look_at(log: &Log, trail: &Trail, number: u32) -> Look {
     look
 }
 
-/// An alternative that may be decided.
-#[derive(Clone, Copy, Debug)]
-struct Choice {
-    literal: Lit,
-    is_shunned: bool,
-}
-
-impl Choice {
-    fn new(literal: Lit, shunned: &Shunned<'_>) -> Choice {
-        Choice {
-            literal,
-            is_shunned: shunned.has(literal.variable()),
-        }
-    }
-
-    /// The one that is tried first, of this and perhaps another one.
-    fn or(self, other: Option<Choice>) -> Choice {
-        match other {
-            Some(other) if other.is_before(self) => other,
-            _ => self,
-        }
-    }
-
-    /// Whether this is tried before another one: the one that is not shunned, or else the one with the higher variable.
-    fn is_before(self, other: Choice) -> bool {
-        if self.is_shunned == other.is_shunned {
-            self.literal.variable() > other.literal.variable()
-        } else {
-            other.is_shunned
-        }
+/// How early an alternative is tried: the higher its variable the earlier, and those that are shunned behind all others.
+fn rank(literal: Lit, shunned: &Shunned<'_>) -> u64 {
+    let variable = u64::from(literal.variable());
+    if shunned.has(literal.variable()) {
+        variable
+    } else {
+        variable | 1 << 32
     }
 }
 
@@ -132,12 +109,17 @@ pub(crate) fn first_unset(
     shunned: &Shunned<'_>,
 ) -> Option<Lit> {
     let mut best = None;
+    let mut highest = 0;
     for literal in clause_of(log, number) {
         if trail.truth(*literal) == Truth::Unset {
-            best = Some(Choice::new(*literal, shunned).or(best));
+            let rank = rank(*literal, shunned);
+            if rank > highest {
+                highest = rank;
+                best = Some(*literal);
+            }
         }
     }
-    best.map(|choice| choice.literal)
+    best
 }
 
 /// Whether a clause is looked at before any assumption: it has fewer than two literals, or none that is negative.

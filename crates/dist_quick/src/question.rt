@@ -82,7 +82,7 @@ impl Quick {
     {
         let shunned = Shunned::of(shunned, log.variables());
         self.sort(log)?;
-        self.at_other = self.is_at_other(log, assumptions);
+        self.at_other = self.is_at_other(log, assumptions)?;
         if self.at_other {
             self.descent
                 .guess(log, &mut self.other, &self.roots, assumptions, &shunned)
@@ -106,16 +106,16 @@ impl Quick {
 
     /// Where a question is asked: where its first assumption is kept, or a hub that this needs, or else in place of the one with
     /// fewer consequences.
-    fn is_at_other(&self, log: &Log, assumptions: &[Lit]) -> bool {
+    fn is_at_other(&mut self, log: &Log, assumptions: &[Lit]) -> Result<bool, AllocError> {
         if self.one.is_of(assumptions) {
-            return false;
+            return Ok(false);
         }
         if self.other.is_of(assumptions) {
-            return true;
+            return Ok(true);
         }
-        if self.one.has_hub_of(log, assumptions) {
-            return false;
+        if self.one.find_hub_of(log, assumptions)? {
+            return Ok(false);
         }
-        self.other.has_hub_of(log, assumptions) || self.other.len() < self.one.len()
+        Ok(self.other.find_hub_of(log, assumptions)? || self.other.len() < self.one.len())
     }
 }
