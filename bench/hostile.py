@@ -243,12 +243,25 @@ def hub(n, fields, more=""):
     return stanza("c", more=fields) + "".join(stanza(f"p{k:06}", more="Depends: c\n") for k in range(n)) + more
 
 
+def far_hub(n, fields, more=""):
+    """The same, where half of them need it through one package each, and the others through one package that all of these need."""
+    own = "".join(stanza(f"p{k:06}", more=f"Depends: x{k:06}\n") + stanza(f"x{k:06}", more="Depends: c\n") for k in range(n // 2))
+    common = stanza("y", more="Depends: c\n") + "".join(stanza(f"q{k:06}", more="Depends: y\n") for k in range(n // 2))
+    return stanza("c", more=fields) + own + common + more
+
+
 def loose(n, more=""):
     return "".join(stanza(f"w{k:06}", more=more) for k in range(n))
 
 
 def one_of(n):
     return "Depends: " + " | ".join(f"w{k:06}" for k in range(n)) + "\n"
+
+
+def pairs(n):
+    """A package with so many items of two alternatives each, and these."""
+    asks = ", ".join(f"a{k:06} | b{k:06}" for k in range(n))
+    return stanza("p", more=f"Depends: {asks}\n") + "".join(stanza(f"{letter}{k:06}") for k in range(n) for letter in "ab")
 
 
 def many_entries(n):
@@ -366,6 +379,11 @@ ROWS = {
     "so many packages that need one in conflict with as many": (10_000, lambda n: strong(hub(n, "Conflicts: v\n", loose(n, "Provides: v\n")))),
     "so many packages that need one with one item of as many alternatives": (10_000, lambda n: strong(hub(n, one_of(n), loose(n)))),
     "so many packages that need one with as many equal items": (10_000, lambda n: strong(hub(n, "Depends: " + ", ".join(["x"] * n) + "\n", stanza("x")))),
+    "so many packages that need, through others, one in conflict with as many": (10_000, lambda n: strong(far_hub(n, "Conflicts: v\n", loose(n, "Provides: v\n")))),
+    "so many packages that need, through others, one with one item of as many alternatives": (10_000, lambda n: strong(far_hub(n, one_of(n), loose(n)))),
+    "so many packages that need, through others, one with as many equal items": (10_000, lambda n: strong(
+        far_hub(n, "Depends: " + ", ".join(["x"] * n) + "\n", stanza("x")))),
+    "a package with so many items of two alternatives": (8_000, lambda n: strong(pairs(n))),
     "so many packages beside an essential one with one item of as many alternatives": (10_000, lambda n: strong(
         stanza("e", more="Essential: yes\n" + one_of(n)) + loose(n), "--essential")),
     "the classes of one entry told again and again": (8_000, lambda n: classes(

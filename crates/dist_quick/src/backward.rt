@@ -2,6 +2,7 @@
 
 use crate::clauses::{Look, clause_of, look_at};
 use crate::forward::{Mark, State};
+use crate::needs::Need;
 use crate::trail::{Trail, Truth};
 use dist_clause::Lit;
 use dist_derive::Log;
@@ -14,12 +15,18 @@ pub(crate) struct Way {
     asked: Vec<bool>,
     /// The places of the variables that are asked for, the highest first.
     waiting: BinaryHeap<u32>,
-    /// Assumptions, which need no explanation: for each variable whether it is assumed false, and whether true.
-    given: Vec<bool>,
+    /// Literals that need no explanation, for each variable the negative one and then the other: `ASSUMED`, or for a need on the way to
+    /// the hub its place from 2 on; 0: it isn't given.
+    given: Vec<u32>,
+    /// How many needs on the way to the hub are asked for, from the assumption on.
+    needs: usize,
     pub(crate) hints: Vec<u32>,
     /// The clauses that led from a decision to a conflict, the latest first.
     chain: Vec<u32>,
 }
+
+/// How an assumption is given.
+const ASSUMED: u32 = 1;
 
 /// How often the clauses that led to a conflict are looked at for what they give without the decision.
 const PASSES: u32 = 4;
@@ -27,38 +34,79 @@ const PASSES: u32 = 4;
 impl Way {
     pub(crate) fn new(alloc: Global, variables: u32) -> Result<Way, AllocError> {
         let asked = vec![in alloc; false; variables as usize + 1]?;
-        let given = vec![in alloc; false; 2 * variables as usize + 2]?;
+        let given = vec![in alloc; 0u32; 2 * variables as usize + 2]?;
         Ok(Way {
             asked,
             waiting: BinaryHeap::new(alloc),
             given,
+            needs: 0,
             hints: Vec::new(alloc),
             chain: Vec::new(alloc),
         })
     }
 
-    /// Takes a literal for an assumption, or takes that back.
-    pub(crate) fn give(&mut self, literal: Lit, given: bool) {
-        if let Some(place) = self.given.get_mut(slot(literal)) {
-            *place = given;
+    /// Takes the needs on the way to the hub and the assumptions for given.
+    pub(crate) fn give(&mut self, path: &[Need], assumptions: &[Lit]) {
+        let mut how = ASSUMED;
+        for need in path {
+            how = how.saturating_add(1);
+            self.set_given(need.literal, how);
+        }
+        for literal in assumptions {
+            self.set_given(*literal, ASSUMED);
         }
     }
 
-    /// Whether a literal is an assumption.
-    fn is_given(&self, literal: Lit) -> bool {
-        self.given.get(slot(literal)).copied().unwrap_or(false)
+    /// Takes that back.
+    pub(crate) fn take_back(&mut self, path: &[Need], assumptions: &[Lit]) {
+        for need in path {
+            self.set_given(need.literal, 0);
+        }
+        for literal in assumptions {
+            self.set_given(*literal, 0);
+        }
     }
 
-    /// The hints by which a false clause shows that the assumptions can't all be true, in the order of the trail. Answers
-    /// false where the clause rests on a decision. It costs the clauses that it explains, however long the trail is.
+    fn set_given(&mut self, literal: Lit, how: u32) {
+        if let Some(given) = self.given.get_mut(slot(literal)) {
+            *given = how;
+        }
+    }
+
+    /// How a literal is given.
+    fn given(&self, literal: Lit) -> u32 {
+        self.given.get(slot(literal)).copied().unwrap_or(0)
+    }
+
+    /// The clause that makes something false that is given: that of the first need whose negation is assumed, or else of what became
+    /// false first, so that nothing else is false on the way back.
+    pub(crate) fn denial(&self, trail: &Trail, path: &[Need], assumptions: &[Lit]) -> Option<u32> {
+        let mut denial = Denial::NONE;
+        for need in path {
+            if self.given(need.literal.negated()) == ASSUMED {
+                return Some(need.clause);
+            }
+            denial = denial.or(trail, need.literal);
+        }
+        for literal in assumptions {
+            denial = denial.or(trail, *literal);
+        }
+        denial.clause
+    }
+
+    /// The hints by which a false clause shows that the assumptions can't all be true: those of the way to the hub, as far as it is
+    /// asked for, and behind them the others in the order of the trail. Answers false where the clause rests on a decision. It
+    /// costs the clauses that it explains, however long the trail is.
     pub(crate) fn trace(
         &mut self,
         log: &Log,
         trail: &Trail,
+        path: &[Need],
         conflict: u32,
     ) -> Result<bool, AllocError> {
         self.hints.clear();
         self.waiting.clear();
+        self.needs = 0;
         let mut rests = true;
         self.ask(log, trail, conflict, trail.len())?;
         for _ in 0..trail.len() {
@@ -72,12 +120,26 @@ impl Way {
                 self.ask(log, trail, reason, place as usize)?;
             }
         }
+        self.push_needs(path)?;
         self.hints.reverse();
         self.hints.push(conflict)?;
         Ok(rests)
     }
 
-    /// Asks for the literals of a clause that have places below this one and negate no assumption.
+    /// Puts the clauses of the needs that are asked for, the last one first.
+    fn push_needs(&mut self, path: &[Need]) -> Result<(), AllocError> {
+        for place in (0..self.needs).rev() {
+            if let Some(need) = path.get(place)
+                && self.given(need.literal) > ASSUMED
+            {
+                self.hints.push(need.clause)?;
+            }
+        }
+        Ok(())
+    }
+
+    /// Asks for the literals of a clause that have places below this one and negate nothing that is given, and for the needs that
+    /// others negate.
     fn ask(
         &mut self,
         log: &Log,
@@ -87,9 +149,10 @@ impl Way {
     ) -> Result<(), AllocError> {
         for literal in clause_of(log, number) {
             let variable = literal.variable();
-            let given = self.is_given(literal.negated());
+            let given = self.given(literal.negated());
+            self.needs = self.needs.max(given.saturating_sub(ASSUMED) as usize);
             let place = trail.place(variable);
-            if !given
+            if given == 0
                 && trail.truth(*literal) == Truth::False
                 && (place as usize) < below
                 && let Some(asked) = self.asked.get_mut(variable as usize)
@@ -163,6 +226,33 @@ impl Way {
             self.chain.push(number)?;
         }
         Ok(())
+    }
+}
+
+/// The clause that made something false that is given, and the place on the trail at which it did.
+#[derive(Clone, Copy, Debug)]
+struct Denial {
+    clause: Option<u32>,
+    place: u32,
+}
+
+impl Denial {
+    const NONE: Denial = Denial {
+        clause: None,
+        place: u32::MAX,
+    };
+
+    /// That of a literal, if it is false and became so before.
+    fn or(self, trail: &Trail, literal: Lit) -> Denial {
+        let place = trail.place(literal.variable());
+        if trail.truth(literal) == Truth::False && place < self.place {
+            Denial {
+                clause: Some(trail.reason(literal.variable())),
+                place,
+            }
+        } else {
+            self
+        }
     }
 }
 

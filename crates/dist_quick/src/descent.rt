@@ -4,8 +4,9 @@ use crate::backward::Way;
 use crate::clauses::Look;
 use crate::forward::{Mark, State};
 use crate::kept::Kept;
+use crate::needs::Need;
 use crate::question::Guess;
-use crate::trail::{Trail, Truth};
+use crate::shunned::Shunned;
 use dist_clause::Lit;
 use dist_derive::Log;
 use std::alloc::{AllocError, Global};
@@ -49,52 +50,62 @@ impl Descent {
         kept: &mut Kept,
         roots: &[u32],
         assumptions: &[Lit],
+        shunned: &Shunned<'_>,
     ) -> Result<Guess, AllocError> {
-        self.give(assumptions, true);
-        let guess = self.go(log, kept, roots, assumptions);
-        self.give(assumptions, false);
+        let conflict = kept.assume(log, roots, assumptions)?;
+        self.way.give(kept.needs.path(), assumptions);
+        let guess = self.go(log, kept, assumptions, shunned, conflict);
+        self.way.take_back(kept.needs.path(), assumptions);
         self.levels.clear();
         guess
     }
 
-    /// Takes literals for assumptions, or takes that back.
-    fn give(&mut self, assumptions: &[Lit], given: bool) {
-        for literal in assumptions {
-            self.way.give(*literal, given);
-        }
-    }
-
+    /// Goes on where the assumptions are true, or the clause of a number is false then.
     fn go(
         &mut self,
         log: &Log,
         kept: &mut Kept,
-        roots: &[u32],
         assumptions: &[Lit],
+        shunned: &Shunned<'_>,
+        conflict: Option<u32>,
     ) -> Result<Guess, AllocError> {
-        if let Some(number) = kept.assume(log, roots, assumptions)? {
-            let number = first_denial(&kept.state.trail, assumptions).unwrap_or(number);
-            return self.refute(log, &kept.state, number);
+        let path = kept.needs.path();
+        if let Some(number) = conflict {
+            let denial = self.way.denial(&kept.state.trail, path, assumptions);
+            return self.refute(log, &kept.state, path, denial.unwrap_or(number));
         }
-        self.descend(log, &mut kept.state)
+        self.descend(log, &mut kept.state, path, shunned)
     }
 
     /// The hints that lead to a false clause, where they rest on the assumptions alone.
-    fn refute(&mut self, log: &Log, state: &State, conflict: u32) -> Result<Guess, AllocError> {
-        if conflict != 0 && self.way.trace(log, &state.trail, conflict)? {
+    fn refute(
+        &mut self,
+        log: &Log,
+        state: &State,
+        path: &[Need],
+        conflict: u32,
+    ) -> Result<Guess, AllocError> {
+        if conflict != 0 && self.way.trace(log, &state.trail, path, conflict)? {
             return Ok(Guess::Refutation);
         }
         Ok(Guess::Nothing)
     }
 
     /// Takes alternatives of the open clauses, one after another. Each step sees to a clause or takes a decision back.
-    fn descend(&mut self, log: &Log, state: &mut State) -> Result<Guess, AllocError> {
+    fn descend(
+        &mut self,
+        log: &Log,
+        state: &mut State,
+        path: &[Need],
+        shunned: &Shunned<'_>,
+    ) -> Result<Guess, AllocError> {
         let mut tries = TRIES;
         let mut place = 0;
         let mut conflict = None;
         for _ in 0..u32::MAX {
             if let Some(number) = conflict {
                 let Some(level) = self.levels.pop() else {
-                    return self.refute(log, state, number);
+                    return self.refute(log, state, path, number);
                 };
                 if tries == 0 {
                     return Ok(Guess::Nothing);
@@ -103,7 +114,7 @@ impl Descent {
                 place = level.open;
                 conflict = self.take_back(log, state, level, number)?;
             } else if let Some(number) = state.open_clause(place) {
-                conflict = self.choose(log, state, place, number)?;
+                conflict = self.choose(log, state, place, number, shunned)?;
                 place = place.saturating_add(1);
             } else {
                 return Ok(Guess::Model);
@@ -136,13 +147,14 @@ impl Descent {
         state: &mut State,
         open: usize,
         number: u32,
+        shunned: &Shunned<'_>,
     ) -> Result<Option<u32>, AllocError> {
         match state.ask(log, open, number) {
             Look::Rests => return Ok(None),
             Look::Conflict => return Ok(Some(number)),
             Look::Unit(literal) => state.trail.set(literal, number)?,
             Look::Open => {
-                if let Some(decision) = state.choice(log, open, number) {
+                if let Some(decision) = state.choice(log, open, number, shunned) {
                     self.levels.push(Level {
                         start: state.mark(),
                         open,
@@ -154,19 +166,4 @@ impl Descent {
         }
         state.propagate(log)
     }
-}
-
-/// The clause that makes an assumption false, where one does: of the assumption that became false first, so that no other
-/// one is false on the way back.
-fn first_denial(trail: &Trail, assumptions: &[Lit]) -> Option<u32> {
-    let mut denial = None;
-    let mut lowest = u32::MAX;
-    for literal in assumptions {
-        let place = trail.place(literal.variable());
-        if trail.truth(*literal) == Truth::False && place < lowest {
-            lowest = place;
-            denial = Some(trail.reason(literal.variable()));
-        }
-    }
-    denial
 }

@@ -1,8 +1,9 @@
 //! What follows from the true literals, and which alternatives are open.
 
-use crate::clauses::{Look, clause_of, highest_unset, last_unset, look_at};
+use crate::clauses::{Look, clause_of, first_unset, last_unset, look_at};
 use crate::hub::{Heaviest, NONE};
 use crate::open::Open;
+use crate::shunned::Shunned;
 use crate::trail::Trail;
 use dist_clause::Lit;
 use dist_derive::Log;
@@ -132,11 +133,17 @@ impl State {
     }
 
     /// The alternative of the open clause of a number, at a place, that is tried first.
-    pub(crate) fn choice(&self, log: &Log, place: usize, number: u32) -> Option<Lit> {
+    pub(crate) fn choice(
+        &self,
+        log: &Log,
+        place: usize,
+        number: u32,
+        shunned: &Shunned<'_>,
+    ) -> Option<Lit> {
         if self.open.is_long(place) {
-            last_unset(log, &self.trail, number)
+            last_unset(log, &self.trail, number, shunned)
         } else {
-            highest_unset(log, &self.trail, number)
+            first_unset(log, &self.trail, number, shunned)
         }
     }
 

@@ -1,7 +1,8 @@
 //! What follows from a question's first assumption, kept for the next question that begins with it.
 
 use crate::forward::{Mark, State};
-use crate::hub::{Heaviest, NONE, need_of};
+use crate::hub::{Heaviest, NONE};
+use crate::needs::Needs;
 use crate::trail::Truth;
 use dist_clause::Lit;
 use dist_derive::Log;
@@ -41,6 +42,8 @@ pub(crate) struct Kept {
     /// The hub that was dear to look at, and how far its consequences go where they are there.
     heaviest: Heaviest,
     at_hub: Option<Stage>,
+    /// How first assumptions need the hub.
+    pub(crate) needs: Needs,
     /// The first assumption of which the consequences are there, and how far they go.
     first: Option<Lit>,
     end: Stage,
@@ -56,6 +59,7 @@ impl Kept {
             broken: None,
             heaviest: NONE,
             at_hub: None,
+            needs: Needs::new(alloc, variables)?,
             first: None,
             end: START,
             start: START,
@@ -83,17 +87,21 @@ impl Kept {
         literals
     }
 
-    /// Whether the consequences of a hub are there that the first one of these assumptions needs.
-    pub(crate) fn has_hub_of(&self, log: &Log, assumptions: &[Lit]) -> bool {
-        match assumptions.first() {
-            Some(first) => self.at_hub.is_some() && self.need_of(log, *first).is_some(),
-            None => false,
+    /// Looks how the first one of these assumptions needs the hub; answers whether it does and the hub's consequences are there.
+    pub(crate) fn find_hub_of(
+        &mut self,
+        log: &Log,
+        assumptions: &[Lit],
+    ) -> Result<bool, AllocError> {
+        match (assumptions.first(), self.heaviest.hub) {
+            (Some(first), Some(hub)) => {
+                Ok(self.needs.find(log, *first, hub)? && self.at_hub.is_some())
+            }
+            _ => {
+                self.needs.find_none();
+                Ok(false)
+            }
         }
-    }
-
-    /// The clause by which an assumption needs the hub.
-    fn need_of(&self, log: &Log, first: Lit) -> Option<u32> {
-        need_of(log, first, self.heaviest.hub?)
     }
 
     /// Makes the assumptions true, and what follows from them; answers the number of a clause that is false then.
@@ -105,6 +113,7 @@ impl Kept {
     ) -> Result<Option<u32>, AllocError> {
         let Some((first, rest)) = assumptions.split_first() else {
             self.first = None;
+            self.needs.leave_path();
             return self.begin(log, roots);
         };
         let conflict = if self.is_of(assumptions) {
@@ -161,12 +170,11 @@ impl Kept {
         roots: &[u32],
         first: Lit,
     ) -> Result<Option<u32>, AllocError> {
-        if let Some(need) = self.need_of(log, first)
-            && self.begin_at_hub(log, roots)?
-        {
-            self.explain_hub(need);
+        if self.needs.are_from(first) && self.begin_at_hub(log, roots)? {
+            self.needs.take_path()?;
             return Ok(None);
         }
+        self.needs.leave_path();
         self.begin(log, roots)
     }
 
@@ -199,13 +207,6 @@ impl Kept {
         self.start = self.stage(roots);
         self.at_hub = Some(self.start);
         Ok(true)
-    }
-
-    /// Takes a clause for what gave the hub.
-    fn explain_hub(&mut self, reason: u32) {
-        if let Some(hub) = self.heaviest.hub {
-            self.state.trail.explain(hub.variable(), reason);
-        }
     }
 
     /// Takes what was heaviest to look at for the hub of later questions, unless the one that is there is heavier.

@@ -1,9 +1,12 @@
 //! A question, and the guess at its answer.
 
+ghost use Rattle.std.specs.Prelude.{◌≡◌, IfSome, length};
+
 use crate::clauses::is_root;
 use crate::descent::Descent;
 use crate::kept::Kept;
-use dist_clause::Lit;
+use crate::shunned::Shunned;
+use dist_clause::{Assignment, Lit};
 use dist_derive::Log;
 use std::alloc::{AllocError, Global};
 
@@ -65,14 +68,27 @@ impl Quick {
     /// Guesses whether some model of the log makes the assumptions true. The log is that of the call before, or has more
     /// lines.
     pub fn ask(&mut self, log: &Log, assumptions: &[Lit]) -> Result<Guess, AllocError> {
+        self.ask_shunning(log, assumptions, None)
+    }
+
+    /// The same, where of the alternatives of a clause those that are true in an assignment are decided last.
+    pub fn ask_shunning(
+        &mut self,
+        log: &Log,
+        assumptions: &[Lit],
+        shunned: Option<&Assignment>,
+    ) -> Result<Guess, AllocError>
+        requires { IfSome shunned (λ values. length values.now ≡ log.now.variables) }
+    {
+        let shunned = Shunned::of(shunned, log.variables());
         self.sort(log)?;
-        self.at_other = self.is_at_other(log, assumptions);
+        self.at_other = self.is_at_other(log, assumptions)?;
         if self.at_other {
             self.descent
-                .guess(log, &mut self.other, &self.roots, assumptions)
+                .guess(log, &mut self.other, &self.roots, assumptions, &shunned)
         } else {
             self.descent
-                .guess(log, &mut self.one, &self.roots, assumptions)
+                .guess(log, &mut self.one, &self.roots, assumptions, &shunned)
         }
     }
 
@@ -90,16 +106,16 @@ impl Quick {
 
     /// Where a question is asked: where its first assumption is kept, or a hub that this needs, or else in place of the one with
     /// fewer consequences.
-    fn is_at_other(&self, log: &Log, assumptions: &[Lit]) -> bool {
+    fn is_at_other(&mut self, log: &Log, assumptions: &[Lit]) -> Result<bool, AllocError> {
         if self.one.is_of(assumptions) {
-            return false;
+            return Ok(false);
         }
         if self.other.is_of(assumptions) {
-            return true;
+            return Ok(true);
         }
-        if self.one.has_hub_of(log, assumptions) {
-            return false;
+        if self.one.find_hub_of(log, assumptions)? {
+            return Ok(false);
         }
-        self.other.has_hub_of(log, assumptions) || self.other.len() < self.one.len()
+        Ok(self.other.find_hub_of(log, assumptions)? || self.other.len() < self.one.len())
     }
 }

@@ -124,13 +124,6 @@ impl Trail {
         Ok(())
     }
 
-    /// Tells of another clause that it gave a variable its value.
-    pub(crate) fn explain(&mut self, variable: u32, reason: u32) {
-        if let Some(known) = self.known.get_mut(variable as usize) {
-            known.reason = reason;
-        }
-    }
-
     /// Leaves so many literals.
     pub(crate) fn undo_to(&mut self, len: usize) {
         for _ in len..self.literals.len() {

@@ -1,6 +1,6 @@
 //! The searches that guess, and how their guesses become answers.
 
-ghost use Rattle.std.specs.Prelude.{◌≡◌, ◌↔◌, ℕ, Contains, IfOk, IfSome};
+ghost use Rattle.std.specs.Prelude.{◌≡◌, ◌↔◌, ℕ, Contains, IfOk, IfSome, length};
 ghost use Rattle.dist_clause.specs.Formula.{IsClauseOver};
 ghost use Rattle.dist_derive.specs.ClauseLog.{inputs_of};
 ghost use Rattle.dist_derive.specs.Cone.{InCone};
@@ -10,7 +10,7 @@ ghost use Rattle.dist_solver.specs.DescentPrivate.{IsShown, IsEnd};
 use crate::answers::Answer;
 use crate::descent::Descent;
 use crate::tested::{Tests, lesson};
-use dist_clause::Lit;
+use dist_clause::{Assignment, Lit};
 use dist_derive::{Log, VariableSet};
 use dist_quick::{Guess, Quick};
 use dist_watched::{Turn, Watched};
@@ -61,20 +61,23 @@ impl Guesses {
         }
     }
 
-    /// The answer that the quick phase guesses, where it passes its test.
+    /// The answer that the quick phase guesses, where it passes its test. Of alternatives it decides those last that are true in an
+    /// assignment.
     pub(crate) fn first(
         &mut self,
         alloc: Global,
         log: &Log,
         assumptions: &[Lit],
+        shunned: Option<&Assignment>,
     ) -> Result<Option<Answer>, AllocError>
         requires same_variables { self.old ≡ log.now.variables }
         requires assumptions { IsClauseOver log.now.variables assumptions.now }
+        requires shunned { IfSome shunned (λ values. length values.now ≡ log.now.variables) }
         requires lines_follow { EachLineFollows log.now.inputs log.now.clauses }
         ensures shown { IfOk result (λ r. IfSome r (IsShown log.now assumptions.now)) }
         ensures same_variables { self.new ≡ self.old }
     {
-        match self.quick.ask(log, assumptions)? {
+        match self.quick.ask_shunning(log, assumptions, shunned)? {
             Guess::Model => {
                 let model = self
                     .tests

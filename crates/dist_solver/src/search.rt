@@ -1,6 +1,6 @@
 //! A solver, and the question that it is asked.
 
-ghost use Rattle.std.specs.Prelude.{◌≡◌, ◌<◌, ◌≤◌, ◌↔◌, ℕ, [], length, Contains, IfOk};
+ghost use Rattle.std.specs.Prelude.{◌≡◌, ◌<◌, ◌≤◌, ◌↔◌, ℕ, [], length, Contains, IfOk, IfSome};
 ghost use Rattle.dist_clause.specs.Formula.{IsClauseOver};
 ghost use Rattle.dist_derive.specs.ClauseLog.{inputs_of};
 ghost use Rattle.dist_derive.specs.Follows.{EachLineFollows};
@@ -16,7 +16,7 @@ use crate::guesses::Guesses;
 use crate::lines::Derived;
 use crate::trail::Trail;
 use dist_base::{MAX_LINE_LITERALS, MAX_LINES};
-use dist_clause::{ClauseSet, Lit};
+use dist_clause::{Assignment, ClauseSet, Lit};
 use dist_derive::{Log, VariableSet, more_clauses_keep_what_follows, new_lines_are_few};
 use std::alloc::{AllocError, Global};
 use std::marker::Model;
@@ -124,6 +124,24 @@ impl Solver {
         ensures adds { Adds self.old.log self.new.log self.new.derived assumptions.now limit }
         ensures answer { IsAnswer self.old.log self.new.log assumptions.now limit result }
     {
+        self.ask_with(assumptions, limit, trues, None)
+    }
+
+    /// The same, where a model that has to be looked for leaves variables out that are true in an assignment, as far as the first
+    /// search meets other alternatives.
+    pub fn ask_with(
+        &mut self,
+        assumptions: &[Lit],
+        limit: u32,
+        trues: &[u32],
+        shunned: Option<&Assignment>,
+    ) -> Result<Answer, AskError>
+        requires limit { 1 ≤ limit }
+        requires assumptions { IsClauseOver self.old.log.variables assumptions.now }
+        requires shunned { IfSome shunned (λ values. length values.now ≡ self.old.log.variables) }
+        ensures adds { Adds self.old.log self.new.log self.new.derived assumptions.now limit }
+        ensures answer { IsAnswer self.old.log self.new.log assumptions.now limit result }
+    {
         self.added.clear();
         let given = self
             .guesses
@@ -131,7 +149,10 @@ impl Solver {
         if let Some(answer) = given {
             return Ok(answer);
         }
-        if let Some(answer) = self.guesses.first(self.alloc, &self.entries, assumptions)? {
+        let first = self
+            .guesses
+            .first(self.alloc, &self.entries, assumptions, shunned)?;
+        if let Some(answer) = first {
             return Ok(answer);
         }
         self.look(assumptions, limit, true)

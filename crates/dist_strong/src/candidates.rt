@@ -84,6 +84,13 @@ impl Candidates {
         self.alloc
     }
 
+    /// The candidates, true in a row of all packages.
+    pub(crate) fn row(&self) -> &Assignment
+        ensures { result.now ≡ self.now }
+    {
+        &self.row
+    }
+
     /// The next candidate behind the one that was asked for last, or the first one where none is behind it.
     pub(crate) fn next(&self, variables: u32, last: u32) -> Option<u32>
         requires { length self.now ≡ variables }

@@ -23,7 +23,8 @@ fn without(alloc: Global, package: u32, other: u32) -> Result<Vec<(u32, bool)>, 
     Ok(words)
 }
 
-/// Asks for the package of the claim without a candidate.
+/// Asks for the package of the claim without a candidate. What is found leaves other candidates out where it can, so that they need
+/// no question.
 fn ask_without<D: Desk>(
     asker: &mut Asker,
     window: &mut Window,
@@ -45,7 +46,7 @@ fn ask_without<D: Desk>(
 {
     file_grows();
     let question = without(candidates.alloc(), group.claimed(), other)?;
-    match asker.ask(desk, &question)? {
+    match asker.ask_with(desk, &question, &[], Some(candidates.row()))? {
         Reply::Found(values) => {
             candidates.add(window, group, values)?;
             Ok(())

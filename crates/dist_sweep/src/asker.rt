@@ -1,5 +1,5 @@
 //! Questions, each with its lines.
-ghost use Rattle.std.specs.Prelude.{◌≡◌, ◌≤◌, List, [], ◌∷◌, ◌++◌, IfErr, IfOk, OnOk, length};
+ghost use Rattle.std.specs.Prelude.{◌≡◌, ◌≤◌, List, [], ◌∷◌, ◌++◌, IfErr, IfOk, IfSome, OnOk, length};
 ghost use Rattle.dist_base.specs.declared.TheConstants.{MAX_LINES, MAX_LINE_LITERALS, MAX_VARIABLES};
 ghost use Rattle.dist_clause.specs.Formula.{IsClauseOver};
 ghost use Rattle.dist_outside.specs.DeskView.{FileGrew};
@@ -95,10 +95,12 @@ fn derive<D: Desk>(
     assumptions: &[Lit],
     limit: u32,
     trues: &[u32],
+    shunned: Option<&Assignment>,
 ) -> Result<Answer, WorkError>
     requires writing { IsWriting (D.view desk.old).mode }
     requires limit { 1 ≤ limit }
     requires assumptions { IsClauseOver solver.old.log.variables assumptions.now }
+    requires shunned { IfSome shunned (λ values. length values.now ≡ solver.old.log.variables) }
     ensures ok { IfOk result (λ answer. (g : Setting) (before : List CertRecord) (question : List Word) → clause_of question ≡ assumptions.now
         → MayDerive g before question solver.old.log limit writer.old
         → IsDerived g before question (D.view desk.old) (D.view desk.new) solver.old.log solver.new.log limit writer.new answer) }
@@ -111,7 +113,7 @@ fn derive<D: Desk>(
     ensures grows { Grows (D.view desk.old) (D.view desk.new) }
 {
     file_grows();
-    let answer = solver.ask_guessing(assumptions, limit, trues);
+    let answer = solver.ask_with(assumptions, limit, trues, shunned);
     let _stated = solver.log().variables();
     let _within = solver.log().len();
     put_derived(alloc, solver.log(), solver.derived(), writer, desk)?;
@@ -272,6 +274,29 @@ impl Asker {
         ensures limit { self.new.limit ≡ self.old.limit }
         ensures grows { Grows (D.view desk.old) (D.view desk.new) }
     {
+        self.ask_with(desk, question, trues, None)
+    }
+
+    /// The same, where an installation that has to be looked for leaves variables out that are true in an assignment, as far as the
+    /// search meets other alternatives.
+    pub fn ask_with<D: Desk>(
+        &mut self,
+        desk: &mut D,
+        question: &[(u32, bool)],
+        trues: &[u32],
+        shunned: Option<&Assignment>,
+    ) -> Result<Reply, WorkError>
+        requires writing { IsWriting (D.view desk.old).mode }
+        requires limit { 1 ≤ self.old.limit }
+        requires question { IsOver self.old.log.variables question.now }
+        requires shunned { IfSome shunned (λ values. length values.now ≡ self.old.log.variables) }
+        ensures ok { IfOk result (AskMore (D.view desk.old) (D.view desk.new) self.old self.new question.now) }
+        ensures err { IfErr result (AskStops self.old question.now (D.view desk.old) (D.view desk.new)) }
+        ensures holds { IfOk result (Holds self.old.log.variables question.now) }
+        ensures variables { self.new.log.variables ≡ self.old.log.variables }
+        ensures limit { self.new.limit ≡ self.old.limit }
+        ensures grows { Grows (D.view desk.old) (D.view desk.new) }
+    {
         file_grows();
         let variables = self.solver.log().variables();
         let assumptions = clause_of(self.alloc, question)?;
@@ -284,6 +309,7 @@ impl Asker {
             &assumptions,
             self.limit,
             trues,
+            shunned,
         )?;
         put_answer(self.alloc, &mut self.writer, desk, &answer, variables)?;
         Ok(reply_of(answer))

@@ -10,7 +10,7 @@ use Rattle.dist_sweep.specs.declared.asker.Reply.{Reply}
 use Rattle.dist_sweep.proofs.Asked.{asked, clause-over, reply-holds, stops-at-answer, stops-at-question, stops-before, stops-while-derived}
 use Rattle.dist_sweep.proofs.Closing.{Derives, DerivesNone}
 use Rattle.dist_sweep.specs.ScriptLaws.{by-exit, two-grow}
-use Rattle.dist_sweep.proofs.asker.Asker.ask_guessing.Goals as goal
+use Rattle.dist_sweep.proofs.asker.Asker.ask_with.Goals as goal
 
 pub returns-in_err-assumptions-clause-err : goal.returns-in_err-assumptions-clause-err
 returns-in_err-assumptions-clause-err g c =
