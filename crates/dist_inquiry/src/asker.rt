@@ -26,7 +26,7 @@ ghost use Rattle.dist_inquiry.specs.Inquiry.{NoQuestion, PutMore, PutStops, Sett
 use crate::putting::{put_derived, put_line};
 use crate::words::clause_of;
 use dist_cert::{CertRecord, Items, Writer};
-use dist_clause::{ClauseSet, Lit};
+use dist_clause::{Assignment, ClauseSet, Lit};
 use dist_derive::{Log, Scratch, lines_keep_models};
 use dist_outside::{Desk, Limits, What, WorkError, file_grows};
 use dist_solver::{Answer, AskError, Solver};
@@ -43,17 +43,19 @@ pub struct Inquirer {
     scratch: Scratch,
     writer: Writer,
     limit: u32,
+    /// Variables that installations leave out where the search has a choice.
+    shunned: Assignment,
 }
 
 impl Model for Inquirer {
-    ghost use Rattle.std.specs.Prelude.{◌≡◌};
+    ghost use Rattle.std.specs.Prelude.{◌≡◌, length};
     ghost use Rattle.dist_sweep.specs.Asking.{AskerView};
 
     ghost Value = { AskerView };
 
     ghost view = { λ a. record { log = a.solver.log; writer = a.writer; limit = a.limit } };
 
-    ghost invariant = { λ a. a.scratch ≡ a.solver.log.variables };
+    ghost invariant = { λ a. (a.scratch ≡ a.solver.log.variables) × (length a.shunned ≡ a.solver.log.variables) };
 }
 
 /// Puts the own line of a question.
@@ -98,10 +100,12 @@ fn derive<D: Desk>(
     desk: &mut D,
     assumptions: &[Lit],
     limit: u32,
+    shunned: &Assignment,
 ) -> Result<Answer, WorkError>
     requires writing { IsWriting (D.view desk.old).mode }
     requires limit { 1 ≤ limit }
     requires assumptions { IsClauseOver solver.old.log.variables assumptions.now }
+    requires shunned { length shunned.now ≡ solver.old.log.variables }
     ensures ok { IfOk result (λ answer. (g : Setting) (before : List CertRecord) (question : List Word) → clause_of question ≡ assumptions.now
         → MayDerive g before question solver.old.log limit writer.old
         → IsDerived g before question (D.view desk.old) (D.view desk.new) solver.old.log solver.new.log limit writer.new answer) }
@@ -114,7 +118,7 @@ fn derive<D: Desk>(
     ensures grows { Grows (D.view desk.old) (D.view desk.new) }
 {
     file_grows();
-    let answer = solver.ask(assumptions, limit);
+    let answer = solver.ask_with(assumptions, limit, &[], Some(shunned));
     let _stated = solver.log().variables();
     let _within = solver.log().len();
     put_derived(alloc, solver.log(), solver.derived(), writer, desk)?;
@@ -213,6 +217,17 @@ fn put_refuted<D: Desk>(
     put_line(writer, desk, &CertRecord::Refuted(Items::from_vec(numbers)))
 }
 
+/// An assignment of so many variables in which all behind the first `front` ones are true.
+fn all_behind(alloc: Global, variables: u32, front: u32) -> Result<Assignment, AllocError>
+    ensures { IfOk result (λ values. length values ≡ variables) }
+{
+    let mut values = Assignment::new(alloc, variables)?;
+    for place in front..variables {
+        values.set(place + 1, true);
+    }
+    Ok(values)
+}
+
 impl Inquirer {
     /// An inquirer that has asked and written nothing.
     pub fn new(
@@ -235,6 +250,33 @@ impl Inquirer {
           limit = limit;
         }) }
     {
+        let variables = clauses.variables();
+        Inquirer::shunning(alloc, clauses, limit, limits, variables)
+    }
+
+    /// The same, where installations leave variables out that are not among the first `front` ones, as far as the search has a choice.
+    pub fn shunning(
+        alloc: Global,
+        clauses: ClauseSet,
+        limit: u32,
+        limits: &Limits,
+        front: u32,
+    ) -> Result<Inquirer, AllocError>
+        requires lines { limits.now.lines ≤ MAX_LINES }
+        requires line_literals { limits.now.line_literals ≤ MAX_LINE_LITERALS }
+        ensures { IfOk result (λ inquirer. inquirer ≡ record {
+          log = record {
+            clauses = clauses.clauses;
+            inputs = length clauses.clauses;
+            variables = clauses.variables;
+            line_limit = limits.now.lines;
+            line_literal_limit = limits.now.line_literals;
+          };
+          writer = new_writer limits.now;
+          limit = limit;
+        }) }
+    {
+        let shunned = all_behind(alloc, clauses.variables(), front)?;
         let scratch = Scratch::new(alloc, clauses.variables())?;
         Ok(Inquirer {
             alloc,
@@ -242,6 +284,7 @@ impl Inquirer {
             solver: Solver::new(alloc, clauses, limits.lines, limits.line_literals)?,
             writer: Writer::new(alloc, limits),
             limit,
+            shunned,
         })
     }
 
@@ -295,6 +338,7 @@ impl Inquirer {
             desk,
             &assumptions,
             self.limit,
+            &self.shunned,
         )?;
         put_answer(self.alloc, &mut self.writer, desk, &answer, variables)?;
         Ok(answer)
