@@ -44,9 +44,10 @@ pub(crate) struct Kept {
     at_hub: Option<Stage>,
     /// How first assumptions need the hub.
     pub(crate) needs: Needs,
-    /// The first assumption of which the consequences are there, and how far they go.
+    /// The first assumption of which the consequences are there, how far they go, and the number of a clause that is false by them.
     first: Option<Lit>,
     end: Stage,
+    refuted: Option<u32>,
     /// From where the question goes on.
     start: Stage,
 }
@@ -62,6 +63,7 @@ impl Kept {
             needs: Needs::new(alloc, variables)?,
             first: None,
             end: START,
+            refuted: None,
             start: START,
         })
     }
@@ -156,10 +158,9 @@ impl Kept {
             conflict = self.look_back(log)?;
         }
         self.choose_hub();
-        if conflict.is_none() {
-            self.keep(roots);
-            self.first = Some(first);
-        }
+        self.keep(roots);
+        self.first = Some(first);
+        self.refuted = conflict;
         Ok(conflict)
     }
 
@@ -222,16 +223,11 @@ impl Kept {
     /// The same where it is there, but for what new roots give.
     fn go_on(&mut self, log: &Log, roots: &[u32]) -> Result<Option<u32>, AllocError> {
         self.go_back(self.end);
-        if self.end.roots == roots.len() {
-            return Ok(None);
+        if self.refuted.is_none() && self.end.roots < roots.len() {
+            self.refuted = self.look_at_new(log, roots)?;
+            self.keep(roots);
         }
-        let conflict = self.look_at_new(log, roots)?;
-        if conflict.is_some() {
-            self.first = None;
-            return Ok(conflict);
-        }
-        self.keep(roots);
-        Ok(None)
+        Ok(self.refuted)
     }
 
     /// Where the first assumption settles many variables, looks also at clauses in which these stand and are false, some for
