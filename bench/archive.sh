@@ -66,7 +66,7 @@ for kind, (most, most_memory, most_check, most_check_memory) in GOALS.items():
     size = stanzas + pairs + certificate
     print(f"{kind}: {seconds:.2f} s, {seconds / floor:.1f} times (goal {most}), {memory:.0f} MB (goal {most_memory});"
           f" check {again:.2f} s, {again / floor:.1f} times (goal {most_check}), {check_memory:.0f} MB (goal {most_check_memory})")
-    print(f"    certificate {certificate / 1e6:.1f} MB, report {report / 1e6:.1f} MB, {pairs} entries, {'the same' if same else 'ANOTHER'} report from the check;"
-          f" {1e9 * seconds / size:.0f} ns for each stanza, entry and byte", flush=True)
+    print(f"    certificate {certificate / 1e6:.1f} MB, report {report / 1e6:.1f} MB, {pairs} entries,"
+          f" {'the same' if same else 'ANOTHER'} report from the check; {1e9 * seconds / size:.0f} ns for each stanza, entry and byte", flush=True)
 PYTHON
 done

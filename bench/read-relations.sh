@@ -25,5 +25,6 @@ def seconds(words):
 floor, _ = seconds(["wc", "-l"])
 lines, _ = seconds([program, "count-lines"])
 ours, found = seconds([program, "read-relations"])
-print(f"{os.path.getsize(path)} bytes, {found}: {ours:.3f} s, wc -l {floor:.3f} s, ratio {ours / floor:.1f}; this program's own line count {lines:.3f} s, ratio {ours / lines:.1f}")
+print(f"{os.path.getsize(path)} bytes, {found}: {ours:.3f} s, wc -l {floor:.3f} s, ratio {ours / floor:.1f};"
+      f" this program's own line count {lines:.3f} s, ratio {ours / lines:.1f}")
 PYTHON

@@ -116,8 +116,8 @@ wants 10 '' 'distfuture: bad list at line 1' health packages unknown
 
 # Memory that is too small for the file.
 { printf 'Package: a\nVersion: 1\nDescription: ' && head -c 24000000 /dev/zero | tr '\0' x && echo; } >wide
-for words in 'classes wide' 'strong wide never' 'outdated wide never' 'challenged wide never' 'check wide cert' 'health wide alone' 'explain wide never --package a=1' 'repair wide never --package a=1' \
-    'check-explain wide explained' 'check-repair wide repaired'; do
+for words in 'classes wide' 'strong wide never' 'outdated wide never' 'challenged wide never' 'check wide cert' 'health wide alone' \
+    'explain wide never --package a=1' 'repair wide never --package a=1' 'check-explain wide explained' 'check-repair wide repaired'; do
     got=0
     (ulimit -v 24000 && exec "$program" $words >out 2>err) || got=$?
     if [ "$got" != 7 ] || [ "$(cat err)" != 'distfuture: no memory' ] || [ -s out ] || [ -e never ]; then
@@ -200,7 +200,8 @@ for how in full closed broken; do
             failed=1
         fi
     done
-    for words in 'health packages both' 'health packages alone' 'classes packages' 'steps packages later' 'steps packages earlier' 'follow packages cert journal' 'try --size 2 --seed 0'; do
+    for words in 'health packages both' 'health packages alone' 'classes packages' 'steps packages later' \
+        'steps packages earlier' 'follow packages cert journal' 'try --size 2 --seed 0'; do
         with 1 $how $words
         if [ "$got" != 6 ] || [ "$(cat err)" != 'distfuture: write fault' ]; then
             echo "wrong: $words with a $how output ended with $got and told '$(cat err)'"
@@ -222,9 +223,10 @@ done
 
 # Standard error that takes nothing leaves the status as it is, and what is printed.
 for how in full closed broken; do
-    for row in '3 health bad both' '3 classes bad' '3 strong bad never' '3 outdated bad never' '3 challenged bad never' '3 check bad cert' '2 try --size 2' '2' \
-        '3 explain bad never --package a=1' '3 repair bad never --package a=1' '13 explain packages never --package a=2' '13 repair packages never --package a=2' \
-        '4 check-explain packages cut-explained' '4 check-repair packages cut-repaired' '4 check packages cut' '5 strong missing never' '6 outdated packages missing/cert' '8 health long both' '10 health packages unknown' '11 follow packages cert twice'; do
+    for row in '3 health bad both' '3 classes bad' '3 strong bad never' '3 outdated bad never' '3 challenged bad never' '3 check bad cert' \
+        '2 try --size 2' '2' '3 explain bad never --package a=1' '3 repair bad never --package a=1' '13 explain packages never --package a=2' \
+        '13 repair packages never --package a=2' '4 check-explain packages cut-explained' '4 check-repair packages cut-repaired' '4 check packages cut' \
+        '5 strong missing never' '6 outdated packages missing/cert' '8 health long both' '10 health packages unknown' '11 follow packages cert twice'; do
         set -- $row
         wanted=$1
         shift

@@ -38,6 +38,8 @@ def packages_of(path: str) -> Iterator[Package]:
         with apt_pkg.TagFile(path) as file:
             for section in file:
                 is_empty = False
+                if "Files" in section:
+                    raise Fault(f"{path} is a Sources file: take binary-ARCH/Packages", BAD_INPUT)
                 source = section.get("Source", section["Package"]).split(" ")[0]
                 yield Package(section["Package"], section["Version"], source, section.get("Architecture", "all"), str(section).strip("\n"))
     except KeyError as error:

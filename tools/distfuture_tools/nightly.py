@@ -73,9 +73,10 @@ def fetch_of_apt(place: str, path: str) -> None:
             raise Fault(f"apt's list of {suite}/{component} could not be read", READ_FAULT)
 
 
-def count_stanzas(path: str) -> int:
+def count_stanzas(path: str, field: bytes = b"Package:") -> int:
+    """How many stanzas have a field."""
     with open_list(path) as file:
-        return sum(line.startswith(b"Package:") for line in file)
+        return sum(line.startswith(field) for line in file)
 
 
 def guard_list(path: str, least: int, folder: str) -> int:
@@ -83,6 +84,8 @@ def guard_list(path: str, least: int, folder: str) -> int:
     count = count_stanzas(path)
     if count < max(1, least):
         raise Fault(f"the list has {count} stanzas: at least {max(1, least)} are wanted")
+    if count_stanzas(path, b"Files:"):
+        raise Fault("the list is a Sources file: take binary-ARCH/Packages")
     earlier = sorted(name for name in os.listdir(folder) if name.endswith(".packages"))
     if earlier:
         before = count_stanzas(os.path.join(folder, earlier[-1]))

@@ -33,6 +33,11 @@ class Join(Files):
         with self.assertRaisesRegex(Fault, "has no stanza"):
             run(join.main, stored("today.txt"), self.file("none", ""))
 
+    def test_refuses_a_sources_file(self):
+        sources = self.file("sources", "Package: a\nVersion: 1\nArchitecture: any\nFiles:\n 0 1 a_1.dsc\n")
+        with self.assertRaisesRegex(Fault, "is a Sources file: take binary-ARCH/Packages"):
+            run(join.main, stored("today.txt"), sources)
+
     def test_output_is_whole_or_not_there(self):
         with self.assertRaises(Fault):
             run(join.main, stored("today.txt"), self.file("none", ""), "--output", self.path("out"))

@@ -31,6 +31,8 @@ class Nightly(Files):
             nightly.guard_list(self.file("none", ""), 1, self.folder)
         with self.assertRaisesRegex(Fault, "at least 7"):
             nightly.guard_list(self.path("list"), 7, self.folder)
+        with self.assertRaisesRegex(Fault, "is a Sources file"):
+            nightly.guard_list(self.file("sources", "Package: a\nVersion: 1\nArchitecture: any\nFiles:\n 0 1 a_1.dsc\n"), 1, self.folder)
         self.file("2026-01-01.packages", LIST * 3)
         with self.assertRaisesRegex(Fault, "may be cut"):
             nightly.guard_list(self.path("list"), 1, self.folder)
