@@ -15,7 +15,7 @@ const VARIABLES: u32 = 20;
 const CLAUSES: u32 = 90;
 
 /// The first variable is dear to look at, where it stands negated in so many clauses of up to so many literals. All from one on
-/// need it.
+/// need it, most of them through one or two of these.
 const WIDE_CLAUSES: u32 = 100;
 
 const WIDTH: u32 = 20;
@@ -54,14 +54,14 @@ fn push_wide(alloc: Global, draws: &mut Draws, set: &mut ClauseSet) -> bool
     pushed
 }
 
-/// Adds that a variable needs the first one.
-fn push_need(alloc: Global, variable: u32, set: &mut ClauseSet) -> bool
+/// Adds that a variable needs another one.
+fn push_need(alloc: Global, variable: u32, other: u32, set: &mut ClauseSet) -> bool
     requires { set.old.variables ≡ VARIABLES }
     ensures { set.new.variables ≡ set.old.variables }
 {
     let mut clause = Vec::new(alloc);
     let _ = add(&mut clause, VARIABLES, variable, false);
-    let _ = add(&mut clause, VARIABLES, 1, true);
+    let _ = add(&mut clause, VARIABLES, other, true);
     let pushed = set.push(&clause).is_ok();
     drop(clause);
     pushed
@@ -77,7 +77,8 @@ fn push_hub(alloc: Global, draws: &mut Draws, set: &mut ClauseSet) -> bool
         pushed &= push_wide(alloc, draws, set);
     }
     'needs: for variable in FIRST_NEEDING..VARIABLES {
-        pushed &= push_need(alloc, variable + 1, set);
+        let other = if variable % 3 == 0 { 1 } else { variable };
+        pushed &= push_need(alloc, variable + 1, other, set);
     }
     pushed
 }

@@ -13,6 +13,8 @@ mod pigeons;
 #[cfg(test)]
 mod quick;
 #[cfg(test)]
+mod shunned;
+#[cfg(test)]
 mod small_sets;
 #[cfg(test)]
 mod tested;

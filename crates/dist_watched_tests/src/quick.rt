@@ -169,7 +169,7 @@ fn push_all_numbers(alloc: Global, set: &mut ClauseSet, clauses: &[&[i32]]) -> b
 }
 
 /// The clauses of some numbers.
-fn numbered_set(alloc: Global, clauses: &[&[i32]]) -> Option<ClauseSet>
+pub(crate) fn numbered_set(alloc: Global, clauses: &[&[i32]]) -> Option<ClauseSet>
     ensures { IfSome result (λ s. s.variables ≡ 5) }
 {
     let mut set = ClauseSet::new(alloc, 5, 10, 100);
