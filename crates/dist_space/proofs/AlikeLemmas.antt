@@ -1,24 +1,29 @@
 -- Entries of a name in order that stand alike: they stand together, and an atom matches all of them or none.
-use Rattle.std.proofs.Common.{◌≡◌, ◌==◌, eqb-true, ◌↔◌, ℕ, ◌<◌, ◌≤◌, Bool, true, false, List, length, get_or, Option, Some, None, Ordering}
+use Rattle.std.proofs.Common.{◌≡◌, ◌==◌, eqb-true, eq-eqb, ℕ, ◌<◌, ◌≤◌, Bool, true, false, List, [], ◌∷◌, length, get_or, Option, Some, None, Ordering}
 use Rattle.std.proofs.Common.{Less, Equal, Greater, is_eq, nat_cmp, refl, sym, ap, subst, ◌∙◌, arith, slice_get}
-use Rattle.std.specs.Prelude.{◌&&◌, IfSome, IsSomeAnd, if◌then◌else◌}
-use Rattle.std.specs.Cmp.Lexicographic.{options_total}
+use Rattle.std.specs.Prelude.{◌&&◌, Contains, IfSome, IsSomeAnd, if◌then◌else◌}
 use Rattle.std.specs.List.Sorted.{IsPartitionedBy, IsSortedBy}
 use Rattle.std.specs.Option.{option_cmp}
 use Rattle.std.specs.Ordering.{is_gt, is_lt, ordering_index, ordering_reverse, ordering_then}
 use Rattle.std.proofs.lemmas.Bool.{false≢true}
-use Rattle.std.proofs.lemmas.Cmp.{alike_right, nat_cmp_total, tied_itself, upto}
+use Rattle.std.proofs.lemmas.Bool.Decides.{nat_tests}
+use Rattle.std.proofs.lemmas.Cmp.{alike_right, nat_cmp_total}
+use Rattle.std.proofs.lemmas.List.Elements.{Contains-get_or}
 use Rattle.std.proofs.lemmas.List.Sorted.{ranks_by, sorted_far}
+use Rattle.dist_base.specs.ListLaws.{at-has, has-at, here-at}
 use Rattle.dist_version.specs.Order.{version_cmp}
 use Rattle.dist_version.specs.OrderLaws.{version_total}
 use Rattle.dist_relation.specs.Satisfies.{AllowsOrder, Satisfies}
 use Rattle.dist_relation.specs.declared.atom.Atom.{Atom}
 use Rattle.dist_relation.specs.declared.atom.Bound.{Bound}
 use Rattle.dist_relation.specs.declared.atom.Provide.{Provide}
-use Rattle.dist_repo.specs.Match.{IsUsable, MatchesByEntry}
-use Rattle.dist_space.specs.EntryOrder.{are_alike, are_alike_to, rank_at, stand_alike, use_cmp, version_at, versions_alike}
-use Rattle.dist_space.specs.Space.{moved_entry, moved_version}
+use Rattle.dist_repo.specs.Match.{MatchesByEntry}
+use Rattle.dist_repo.specs.declared.package.Package.{Package}
+use Rattle.dist_space.specs.EntryOrder.{AreMatchedAlike, IsEntryNamed, are_alike, are_alike_to, entry_version, is_useless, rank_at, stand_alike, use_cmp, version_at, versions_alike}
+use Rattle.dist_space.specs.Space.{IsMatchedBy, SpaceView, example_at, member_classes, moved_entry, moved_version}
+use Rattle.dist_space.specs.Usable.{is_usable}
 use Rattle.dist_space.specs.UsableLaws.{is-usable, usable-is}
+use Rattle.dist_space.specs.declared.meaning.Meaning.TheVariants.{Kept}
 use Rattle.dist_space.proofs.EntryLemmas.{use_total}
 
 -- ---- orders
@@ -152,16 +157,17 @@ module _ (architecture : Option (List ℕ)) (bound : Option Bound) (own : List �
         ap is_gt (total.antisymm x y) ∙ turned (use_cmp architecture provides y x)
         (sorted_far (λ a b. is_lt (use_cmp architecture provides a b)) (ranks_by total (λ (n : ℕ). n)) places order i j d less short)
 
-    pub parted : (first : ℕ) → get_or places 0 first ≡ first → IsPartitionedBy (are_alike architecture bound own provides first) places
-    parted first is i j d less short alike =
-        let at : get_or places 0 d ≡ first = at-front places first d is (omega (arith, less, short)) in
+    front : (places : List ℕ) (d : ℕ) → 0 < length places → get_or places 0 d ≡ get_or places 0 0
+    front [] d some = absurd (omega (arith, some))
+    front (x ∷ xs) d some = refl
+
+    pub parted : IsPartitionedBy (are_alike architecture bound own provides (get_or places 0 0)) places
+    parted i j d less short alike =
+        let first = get_or places 0 0 in
         let low : is_gt (use_cmp architecture provides first (get_or places i d)) ≡ false =
-        ap (λ (n : ℕ). is_gt (use_cmp architecture provides n (get_or places i d))) (sym at) ∙ up-to 0 i d (omega arith) (omega (arith, less, short)) in
+        ap (λ (n : ℕ). is_gt (use_cmp architecture provides n (get_or places i d))) (sym (front places d (omega (arith, less, short))))
+        ∙ up-to 0 i d (omega arith) (omega (arith, less, short)) in
         alike-between first (get_or places i d) (get_or places j d) low (up-to i j d less short) alike
-      where
-        at-front : (places : List ℕ) (first d : ℕ) → get_or places 0 first ≡ first → 0 < length places → get_or places 0 d ≡ first
-        at-front [] first d is some = absurd (omega (arith, some))
-        at-front (x ∷ xs) first d is some = is
 
 -- an entry stands as itself
 itself : (bound : Option Bound) (own : List ℕ) (v : Option (List ℕ)) → versions_alike bound own v v ≡ true
@@ -174,3 +180,117 @@ pub alike-itself : (architecture : Option (List ℕ)) (bound : Option Bound) (ow
 alike-itself architecture bound own provides i =
     let a = rank_at architecture provides i in
     and-true (a == a) (versions_alike bound own (version_at provides i) (version_at provides i)) (eq-eqb a a refl) (itself bound own (version_at provides i))
+
+-- ---- an atom matches all of them or none
+
+-- the rank of an entry
+abbrev rank : Option (List ℕ) → Provide → ℕ
+rank architecture entry = if (if is_usable architecture entry.qualifier then false else true) then 1 else 0
+
+abbrev rank_by : Bool → ℕ
+rank_by usable = if (if usable then false else true) then 1 else 0
+
+usable-from : (e f : Bool) → rank_by e ≡ rank_by f → e ≡ true → f ≡ true
+usable-from e true same is = refl
+usable-from true false same is = absurd (omega (arith, same))
+usable-from false false same is = is
+
+module _ (architecture : Option (List ℕ)) (atom : Atom) (own example : List ℕ) where
+  satisfies-alike : (bound : Bound) (a b : List ℕ) → version_cmp a bound.version ≡ version_cmp b bound.version → Satisfies a bound → Satisfies b bound
+  satisfies-alike bound a b same holds = subst (λ (o : Ordering). AllowsOrder bound.op o) same holds
+
+  abbrev Moves : Bool → List ℕ → Option (List ℕ)
+  Moves moves v = if moves then Some example else Some v
+
+  moved-alike : (bound : Bound) (a b : List ℕ) (moves : Bool) → version_cmp a bound.version ≡ version_cmp b bound.version
+      → IsSomeAnd (Moves moves a) (λ v. Satisfies v bound) → IsSomeAnd (Moves moves b) (λ v. Satisfies v bound)
+  moved-alike bound a b true same holds = holds
+  moved-alike bound a b false same holds = satisfies-alike bound a b same holds
+
+  meets-alike : (bound : Option Bound) (a b : Option (List ℕ)) → versions_alike bound own a b ≡ true
+      → IfSome bound (λ x. IsSomeAnd (moved_version own example a) (λ v. Satisfies v x))
+      → IfSome bound (λ x. IsSomeAnd (moved_version own example b) (λ v. Satisfies v x))
+  meets-alike None a b alike meets = tt
+  meets-alike (Some bound) None b alike meets = absurd meets
+  meets-alike (Some bound) (Some a) None alike meets = absurd (false≢true alike)
+  meets-alike (Some bound) (Some a) (Some b) alike meets =
+      let parts = both-are (stand_alike own a b) (stand_alike bound.version a b) alike in
+      let moves = is_eq (version_cmp a own) in
+      let here : IsSomeAnd (Moves moves b) (λ v. Satisfies v bound) = moved-alike bound a b moves (alike-is bound.version a b parts.1) meets in
+      subst (λ (m : Bool). IsSomeAnd (Moves m b) (λ v. Satisfies v bound)) (ap is_eq (alike-is own a b parts.0)) here
+
+  pub matches-alike : (e f : Provide) → rank architecture e ≡ rank architecture f → versions_alike atom.bound own e.version f.version ≡ true → f.name ≡ atom.name
+      → MatchesByEntry architecture atom (moved_entry own example e) → MatchesByEntry architecture atom (moved_entry own example f)
+  matches-alike e f ranks alike named matches = record {
+    usable = is-usable architecture f.qualifier
+        (usable-from (is_usable architecture e.qualifier) (is_usable architecture f.qualifier) ranks (usable-is architecture e.qualifier matches.usable));
+    name = named;
+    bound = meets-alike atom.bound e.version f.version alike matches.bound;
+  }
+
+-- ---- in a space
+
+-- the rank of an entry, if there is one
+abbrev rank_in : Option (List ℕ) → Option Provide → ℕ
+rank_in architecture entry = if is_useless architecture entry then 1 else 0
+
+-- alike is alike the other way round
+versions-back : (bound : Option Bound) (own : List ℕ) (a b : Option (List ℕ)) → versions_alike bound own a b ≡ true → versions_alike bound own b a ≡ true
+versions-back bound own None None alike = refl
+versions-back bound own None (Some b) alike = absurd (false≢true alike)
+versions-back bound own (Some a) None alike = absurd (false≢true alike)
+versions-back bound own (Some a) (Some b) alike =
+    let parts = both-are (stand_alike own a b) (are_alike_to bound a b) alike in
+    and-true (stand_alike own b a) (are_alike_to bound b a) (is-alike own b a (sym (alike-is own a b parts.0))) (to-bound bound parts.1)
+  where
+    to-bound : (bound : Option Bound) → are_alike_to bound a b ≡ true → are_alike_to bound b a ≡ true
+    to-bound None is = refl
+    to-bound (Some bound) is = is-alike bound.version b a (sym (alike-is bound.version a b is))
+
+module _ (s : SpaceView) (atom : Atom) (member class : ℕ) (p : Package) (at : slice_get s.repository.packages member ≡ Some p) where
+  abbrev Entry : Provide → Type 0
+  Entry entry = MatchesByEntry s.repository.architecture atom (moved_entry p.version (example_at (member_classes s member) class) entry)
+
+  abbrev KeptOf : ℕ → Package → Type 0
+  KeptOf j q = IsSomeAnd (slice_get q.provides j)
+      (λ entry. MatchesByEntry s.repository.architecture atom (moved_entry q.version (example_at (member_classes s member) class) entry))
+
+  one-way : (i j : ℕ) (e f : Provide) → slice_get p.provides i ≡ Some e → slice_get p.provides j ≡ Some f → f.name ≡ atom.name
+      → rank s.repository.architecture e ≡ rank s.repository.architecture f
+      → versions_alike atom.bound p.version e.version f.version ≡ true → IsMatchedBy s atom (Kept member class i) → IsMatchedBy s atom (Kept member class j)
+  one-way i j e f first second named ranks alike matched =
+      at-has (KeptOf j) s.repository.packages member p at (at-has Entry p.provides j f second
+      (matches-alike s.repository.architecture atom p.version (example_at (member_classes s member) class) e f ranks alike named
+      (has-at Entry p.provides i e first (has-at (KeptOf i) s.repository.packages member p at matched))))
+
+  abbrev Named : Provide → Type 0
+  Named entry = entry.name ≡ atom.name
+
+  pub matched-alike : (i j : ℕ) → IsEntryNamed s.repository.packages member atom.name i → IsEntryNamed s.repository.packages member atom.name j
+      → are_alike s.repository.architecture atom.bound p.version p.provides i j ≡ true → AreMatchedAlike s atom member class i j
+  matched-alike i j first second alike =
+      let Has : ℕ → Package → Type 0 = λ k q. IsSomeAnd (slice_get q.provides k) Named in
+      let e = here-at Named p.provides i (has-at (Has i) s.repository.packages member p at first) in
+      let f = here-at Named p.provides j (has-at (Has j) s.repository.packages member p at second) in
+      let a = s.repository.architecture in
+      let parts = both-are (rank_at a p.provides i == rank_at a p.provides j)
+      (versions_alike atom.bound p.version (version_at p.provides i) (version_at p.provides j)) alike in
+      let ranks : rank a e.element ≡ rank a f.element = ap (rank_in a) (sym e.is) ∙ eqb-true (rank_at a p.provides i) (rank_at a p.provides j) parts.0
+      ∙ ap (rank_in a) f.is in
+      let versions : versions_alike atom.bound p.version e.element.version f.element.version ≡ true =
+      ap (λ (v : Option (List ℕ)). versions_alike atom.bound p.version v f.element.version) (ap entry_version (sym e.is))
+      ∙ ap (λ (v : Option (List ℕ)). versions_alike atom.bound p.version (version_at p.provides i) v) (ap entry_version (sym f.is)) ∙ parts.1 in (
+        one-way i j e.element f.element e.is f.is f.holds ranks versions,
+        one-way j i f.element e.element f.is e.is e.holds (sym ranks) (versions-back atom.bound p.version e.element.version f.element.version versions),
+      )
+
+-- ---- of places in order
+
+pub all-alike : (s : SpaceView) (atom : Atom) (member : ℕ) (p : Package) (places : List ℕ) (count : ℕ) → slice_get s.repository.packages member ≡ Some p
+    → count ≤ length places → ((j : ℕ) → Contains places j → IsEntryNamed s.repository.packages member atom.name j)
+    → ((k : ℕ) → k < count → are_alike s.repository.architecture atom.bound p.version p.provides (get_or places 0 0) (get_or places k 0) ≡ true)
+    → (class k : ℕ) → k < count → AreMatchedAlike s atom member class (get_or places 0 0) (get_or places k 0)
+all-alike s atom member p places count at within named alike class k less =
+    matched-alike s atom member class p at (get_or places 0 0) (get_or places k 0)
+    (named (get_or places 0 0) (Contains-get_or places 0 0 (omega (arith, less, within))))
+    (named (get_or places k 0) (Contains-get_or places k 0 (omega (arith, less, within)))) (alike k less)

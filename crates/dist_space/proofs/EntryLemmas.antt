@@ -187,7 +187,7 @@ module _ (architecture : Option (List ℕ)) (provides : List Provide) where
       order.rising (start + k) d (omega arith) (omega (arith, less, counted, rise, short)) in
       let here : is_lt (entry_cmp architecture provides y x) ≡ false =
       ap (λ (i : ℕ). is_lt (entry_cmp architecture provides i x)) next
-          ∙ ap (λ (i : ℕ). is_lt (entry_cmp architecture provides (get_or places (start + k + 1) d) i)) at ∙ up in
+      ∙ ap (λ (i : ℕ). is_lt (entry_cmp architecture provides (get_or places (start + k + 1) d) i)) at ∙ up in
       let one : name_at provides x ≡ name = named x (Contains-get_or part k d (omega (arith, less))) in
       let other : name_at provides y ≡ name = named y (Contains-get_or part (k + 1) d (omega (arith, less))) in
       let level : slice_cmp nat_cmp (name_at provides y) (name_at provides x) ≡ Equal =

@@ -114,11 +114,7 @@ fn write_places(provides: &Provides, places: &mut Vec<u32>) -> Result<(), AllocE
 }
 
 /// Writes the places of all entries in order.
-fn write_order(
-    frame: &Frame,
-    provides: &Provides,
-    places: &mut Vec<u32>,
-) -> Result<(), AllocError>
+fn write_order(frame: &Frame, provides: &Provides, places: &mut Vec<u32>) -> Result<(), AllocError>
     requires { length provides.now < 2 ^ 32 }
     ensures { OnOk result (IsEntryOrder frame.now.repository.architecture provides.now places.new.items) }
 {

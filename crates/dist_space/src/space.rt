@@ -266,12 +266,7 @@ impl Space {
         ensures some { 0 < length places.now → 0 < result }
         ensures alike { (class k : ℕ) → k < result → AreMatchedAlike self.now atom.now member class (slice_index places.now 0) (slice_index places.now k) }
     {
-        alike_count(
-            &self.frame,
-            self.frame.package(member),
-            &atom.bound,
-            places,
-        )
+        alike_count(&self.frame, self.frame.package(member), &atom.bound, places)
     }
 
     /// The example of a class of a cluster.

@@ -1,5 +1,4 @@
 use Rattle.std.proofs.Common.{◌≡◌, ◌∙◌, Some, List, slice_get, ap, sym, subst}
-use Rattle.dist_repo.specs.PackageList.{PackageList}
 use Rattle.dist_repo.specs.declared.package.Package.{Package}
 use Rattle.dist_space.specs.EntryOrder.{AreInUseOrder, IsEntryOrder}
 use Rattle.dist_space.specs.Space.{SpaceView}
