@@ -14,8 +14,8 @@ import tempfile
 
 MOST_GROWTH, MOST_MEMORY, LEAST_SECONDS = 2.6, 12, 0.1
 LONG = "lib" + "x" * 61
-# What a stanza says of its package, as in any archive.
-TOLD = "Description: " + "x" * 80 + "\n"
+# What a stanza says of its package besides, as in any archive.
+TOLD = "Description: " + "x" * 400 + "\n"
 
 
 def stanza(name, version="1", more=""):
@@ -262,13 +262,14 @@ def moving_providers(bounds):
 
 def asked_entries(entries, bounds):
     """A package with entries of one name, and packages that each ask for a version of it."""
-    return stanza("p", more="Provides: " + ", ".join(entries) + "\n") + "".join(stanza(f"q{k:06}", more=f"Depends: a ({bound})\n") for k, bound in enumerate(bounds))
+    return stanza("p", more="Provides: " + ", ".join(entries) + "\n") + "".join(
+        stanza(f"q{k:06}", more=f"Depends: a ({bound})\n{TOLD}") for k, bound in enumerate(bounds))
 
 
 # Entries of one name, and bounds of which each meets one of them or none.
 ENTRIES = {
     "at as many versions": lambda n: ([f"a (= {k + 2})" for k in range(n // 2)], [f"= {k + 2}" for k in range(n // 2)]),
-    "that go with their package": lambda n: (["a (= 1)"] * (n // 2), [f"<< {spelled(k)}" for k in range(n // 2)]),
+    "that go with their package": lambda n: (["a (= 1)"] * (n // 2), ["<< 1"] * (n // 2)),
     "that are not usable": lambda n: ([f"a:x (= {k + 2})" for k in range(n // 2)] + ["a (= 2)"], [f">= {spelled(k)}" for k in range(n // 2)]),
 }
 
