@@ -14,6 +14,8 @@ import tempfile
 
 MOST_GROWTH, MOST_MEMORY, LEAST_SECONDS = 2.6, 12, 0.1
 LONG = "lib" + "x" * 61
+# What a stanza says of its package besides, as in any archive.
+TOLD = "Description: " + "x" * 400 + "\n"
 
 
 def stanza(name, version="1", more=""):
@@ -63,6 +65,11 @@ def classes(packages):
 # All packages are asked for what they need.
 def strong(packages, *options):
     return ["strong", "packages", "cert", *options], packages, ""
+
+
+# All packages are asked for what they challenge.
+def challenged(packages):
+    return ["challenged", "packages", "cert"], packages, ""
 
 
 # The clauses of futures, which dist_bench makes.
@@ -277,6 +284,34 @@ def spelled(k):
     return ".".join("01" if k >> place & 1 else "1" for place in range(20))
 
 
+def moving_providers(bounds):
+    """As many packages as bounds, each of which provides one name at its own version, above all of them."""
+    n = len(bounds)
+    return "".join(stanza(f"q{k:06}", n + k, f"Provides: a (= {n + k})\n{TOLD}") for k in range(n)) + "".join(
+        stanza(f"p{k:06}", more=f"Depends: a ({bound})\n{TOLD}") for k, bound in enumerate(bounds))
+
+
+def asked_entries(entries, bounds):
+    """A package with entries of one name, and packages that each ask for a version of it."""
+    return stanza("p", more="Provides: " + ", ".join(entries) + "\n") + "".join(
+        stanza(f"q{k:06}", more=f"Depends: a ({bound})\n{TOLD}") for k, bound in enumerate(bounds))
+
+
+# Entries of one name, and bounds of which each meets one of them or none.
+ENTRIES = {
+    "at as many versions": lambda n: ([f"a (= {k + 2})" for k in range(n // 2)], [f"= {k + 2}" for k in range(n // 2)]),
+    "that go with their package": lambda n: (["a (= 1)"] * (n // 2), ["<< 1"] * (n // 2)),
+    "that are not usable": lambda n: ([f"a:x (= {k + 2})" for k in range(n // 2)] + ["a (= 2)"], [f">= {spelled(k)}" for k in range(n // 2)]),
+}
+
+
+def entry_rows():
+    """Entries of one name, of which each atom is met by few."""
+    for kind, make in ENTRIES.items():
+        yield f"the clauses of futures of so many entries of a name {kind}", (40_000, lambda n, make=make: futures(asked_entries(*make(n))))
+        yield f"the challenged of so many entries of a name {kind}", (20_000, lambda n, make=make: challenged(asked_entries(*make(n))))
+
+
 # Bounds on versions that all providers of a name meet.
 BOUNDS = {
     "rising": lambda n: [f">= {k + 1}" for k in range(n)],
@@ -389,6 +424,10 @@ ROWS = {
     "the classes of one entry told again and again": (8_000, lambda n: classes(
         stanza("libx", more="Provides: " + ", ".join(["a (= 1)"] * n) + "\n")
         + stanza("p", more="Conflicts: " + ", ".join(f"a (>= {k})" for k in range(n)) + "\n"))),
+    "the classes of so many packages of one name they provide, with as many bounds below": (80_000, lambda n: classes(moving_providers(
+        [f">= {k + 1}" for k in range(n // 2)]))),
+    "the classes of so many packages of one name they provide, with as many spellings of one bound above": (80_000, lambda n: classes(moving_providers(
+        [f">= {n}.{spelled(k)}" for k in range(n // 2)]))),
     "the clauses of futures of so many entries": (8_000, lambda n: futures(many_entries(n))),
     "the clauses of futures of so many packages that ask for a version of one name": (40_000, lambda n: futures(asked_by_many(n)[0])),
     "the clauses of futures of so many packages in conflict with a version of one name": (40_000, lambda n: futures(rejecting_many(n)[0])),
@@ -399,6 +438,7 @@ ROWS = {
         "".join(stanza(f"p{k}", more="Provides: x\n") for k in range(n)) + stanza("q", more="Depends: " + " | ".join(["x"] * (n // 20)) + "\n"))),
     "the clauses of futures of one conflict told again and again": (20_000, lambda n: futures(
         "".join(stanza(f"p{k}", more="Provides: x\n") for k in range(n)) + stanza("q", more="Conflicts: " + ", ".join(["x"] * (n // 20)) + "\n"))),
+    **dict(entry_rows()),
     **dict(wide_rows()),
 }
 

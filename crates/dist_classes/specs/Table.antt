@@ -47,7 +47,7 @@ IsPackageBound architecture name version p =
 abbrev pub HasBounds : PackageList → Entries → Type 0
 HasBounds r table = (q v : List ℕ) → Contains table (q, v) ↔ IsBoundOn r (λ name. name ≡ q) v
 
--- these, in order
+-- bounds by name, version and text: beside each name are the versions that the atoms of the repository have in their bounds on it
 pub record IsTableOf (r : PackageList) (table : Entries) : Type 0 where
   pub sorted : IsSorted bound_cmp table
   pub exact : HasBounds r table

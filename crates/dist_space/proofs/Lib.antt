@@ -1,4 +1,5 @@
 pub mod EntryLemmas
+pub mod AlikeLemmas
 pub mod ExampleLemmas
 pub mod ExtendLemmas
 pub mod FirstVariables

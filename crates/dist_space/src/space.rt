@@ -1,16 +1,16 @@
 //! The space of the futures of a repository.
-ghost use Rattle.std.specs.Prelude.{◌≡◌, ◌≤◌, ◌<◌, ◌-◌, ◌^◌, ◌↔◌, ℕ, [], Contains, IfErr, IfOk, Some, length, slice_get};
+ghost use Rattle.std.specs.Prelude.{◌≡◌, ◌≤◌, ◌<◌, ◌-◌, ◌^◌, ◌↔◌, ℕ, [], Contains, IfErr, IfOk, Some, length, slice_get, slice_index};
 ghost use Rattle.dist_base.specs.declared.TheConstants.{MAX_VARIABLES};
 ghost use Rattle.dist_base.specs.Answers.{IsExactly};
 ghost use Rattle.dist_repo.specs.Order.{IsFlat};
 ghost use Rattle.dist_repo.specs.Size.{IsWithinSize};
-ghost use Rattle.dist_space.specs.EntryOrder.{AreEntryOrders, IsEntryNamed};
+ghost use Rattle.dist_space.specs.EntryOrder.{AreEntryOrders, AreInUseOrder, AreMatchedAlike, IsEntryNamed};
 ghost use Rattle.dist_space.specs.Kept.{IsExtended, IsFull};
 ghost use Rattle.dist_space.specs.NumberingPrivate.{meanings_of};
 ghost use Rattle.dist_space.specs.Space.{IsMeaningOf, IsMeaning, IsSpace, cluster_classes, example_at, fresh_classes, variable_of};
 ghost use Rattle.dist_space.specs.SpaceOf.{HasMoreVariables, IsSpaceOf};
 
-use crate::entry_order::{entry_orders, named};
+use crate::entry_order::{alike_count, entry_orders, named};
 use crate::errors::SpaceError;
 use crate::frame::Frame;
 use crate::meaning::Meaning;
@@ -20,7 +20,7 @@ use crate::space_laws::spaces_are_one;
 use dist_base::Flat;
 use dist_classes::{ClassExample, Classes, Names};
 use dist_cluster::Clusters;
-use dist_relation::Name;
+use dist_relation::{Atom, Name};
 use dist_repo::{Package, Repository};
 use std::alloc::{AllocError, Global};
 use std::marker::Model;
@@ -33,7 +33,7 @@ pub struct Space {
     /// The variable of a number, from 1, has the meaning at the place before.
     pub(crate) meanings: Vec<Meaning>,
     pub(crate) places: Places,
-    /// For each package the places of its entries of Provides, in the order of their names.
+    /// For each package the places of its entries of Provides, in order.
     entries: Flat<u32>,
 }
 
@@ -64,10 +64,10 @@ impl Model for Space {
       names = s.frame.names;
       name_classes = s.frame.name_classes;
       meanings = s.meanings.items;
-    }) × AreEntryOrders s.frame.repository.packages s.entries };
+    }) × AreEntryOrders s.frame.repository s.entries };
 }
 
-/// Guesses of places, and the entries of each package in the order of their names.
+/// Guesses of places, and the entries of each package in order.
 #[derive(Drop)]
 struct Tables {
     places: Places,
@@ -76,7 +76,7 @@ struct Tables {
 
 /// Finds both.
 fn tables_of(alloc: Global, frame: &Frame, meanings: &[Meaning]) -> Result<Tables, AllocError>
-    ensures { IfOk result (λ tables. AreEntryOrders frame.now.repository.packages tables.entries) }
+    ensures { IfOk result (λ tables. AreEntryOrders frame.now.repository tables.entries) }
 {
     let places = Places::of(alloc, frame.package_count(), meanings)?;
     match entry_orders(alloc, frame) {
@@ -98,7 +98,7 @@ struct Numbered {
 /// Numbers the variables of a space.
 fn number_all(alloc: Global, frame: &Frame, variables: u32) -> Result<Numbered, SpaceError>
     ensures ok { IfOk result (λ found. IsExtended variables [] (meanings_of frame.now) found.meanings.items) }
-    ensures entries { IfOk result (λ found. AreEntryOrders frame.now.repository.packages found.tables.entries) }
+    ensures entries { IfOk result (λ found. AreEntryOrders frame.now.repository found.tables.entries) }
     ensures err { IfErr result (IsFull variables (length (meanings_of frame.now))) }
 {
     let meanings = number_meanings(alloc, frame, variables)?;
@@ -249,10 +249,24 @@ impl Space {
     /// The places of those entries of Provides of a package that have a name.
     pub fn entries_named(&self, member: u32, name: &Name) -> &[u32]
         requires { member < length self.now.repository.packages }
-        ensures { (j : ℕ) → Contains result.now j ↔ IsEntryNamed self.now.repository.packages member name.now j }
+        ensures named { (j : ℕ) → Contains result.now j ↔ IsEntryNamed self.now.repository.packages member name.now j }
+        ensures in_order { AreInUseOrder self.now.repository member result.now }
     {
         let provides = &self.frame.package(member).provides;
         named(provides, self.entries.get(member as usize), name.bytes())
+    }
+
+    /// How many entries of the name of an atom, from the first one on, the atom matches as it does the first one, whatever the
+    /// new version of their package.
+    pub fn alike_count(&self, member: u32, atom: &Atom, places: &[u32]) -> usize
+        requires member { member < length self.now.repository.packages }
+        requires named { (j : ℕ) → Contains places.now j → IsEntryNamed self.now.repository.packages member atom.now.name j }
+        requires in_order { AreInUseOrder self.now.repository member places.now }
+        ensures within { result ≤ length places.now }
+        ensures some { 0 < length places.now → 0 < result }
+        ensures alike { (class k : ℕ) → k < result → AreMatchedAlike self.now atom.now member class (slice_index places.now 0) (slice_index places.now k) }
+    {
+        alike_count(&self.frame, self.frame.package(member), &atom.bound, places)
     }
 
     /// The example of a class of a cluster.

@@ -156,14 +156,32 @@ abbrev pub IsPartnerOf : SpaceView → ℕ → Meaning → Type 0
 IsPartnerOf s number (Present other) = IsPartner s.repository number other
 IsPartnerOf s number m = ⊥
 
--- a kept entry of that new version
-abbrev pub IsKeptOf : (number class : ℕ) → Meaning → Type 0
-IsKeptOf number class Now = ⊥
-IsKeptOf number class (Present r) = ⊥
-IsKeptOf number class (At c k) = ⊥
-IsKeptOf number class (New r k) = ⊥
-IsKeptOf number class (Kept r k j) = (r ≡ number) × (k ≡ class)
-IsKeptOf number class (Fresh x k) = ⊥
+-- a new version of a package itself
+abbrev pub IsNewOf : ℕ → Meaning → Type 0
+IsNewOf number Now = ⊥
+IsNewOf number (Present r) = ⊥
+IsNewOf number (At c k) = ⊥
+IsNewOf number (New r k) = r ≡ number
+IsNewOf number (Kept r k j) = ⊥
+IsNewOf number (Fresh x k) = ⊥
+
+-- a kept entry of a new version of a package
+abbrev pub IsKeptOf : ℕ → Meaning → Type 0
+IsKeptOf number Now = ⊥
+IsKeptOf number (Present r) = ⊥
+IsKeptOf number (At c k) = ⊥
+IsKeptOf number (New r k) = ⊥
+IsKeptOf number (Kept r k j) = r ≡ number
+IsKeptOf number (Fresh x k) = ⊥
+
+-- the one at a place
+abbrev pub IsKeptAt : (number place : ℕ) → Meaning → Type 0
+IsKeptAt number place Now = ⊥
+IsKeptAt number place (Present r) = ⊥
+IsKeptAt number place (At c k) = ⊥
+IsKeptAt number place (New r k) = ⊥
+IsKeptAt number place (Kept r k j) = (r ≡ number) × (j ≡ place)
+IsKeptAt number place (Fresh x k) = ⊥
 
 -- the item at a place of the package of a number
 pub record IsItemAt (packages : List Package) (number place : ℕ) (item : List Atom) : Type 0 where

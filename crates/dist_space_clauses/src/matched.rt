@@ -1,9 +1,9 @@
 //! The variables that an atom matches, added to a vector: packages as they are, their new versions with what these keep, and
 //! packages of new names.
-ghost use Rattle.std.specs.Prelude.{◌≡◌, ◌<◌, ◌↔◌, ℕ, Contains, OnOk, Some, length, slice_get};
+ghost use Rattle.std.specs.Prelude.{◌≡◌, ◌<◌, ◌↔◌, ℕ, Any, Contains, IsTrue, OnOk, Some, length, slice_get, slice_index};
 ghost use Rattle.std.specs.List.Sorted.{IsStrictlyIncreasing};
-ghost use Rattle.dist_space_clauses.specs.GatheringPrivate.{Adds, IsFresh, IsKeptOf, IsLaterOf, IsOfVersion};
-ghost use Rattle.dist_space.specs.EntryOrder.{IsEntryNamed};
+ghost use Rattle.dist_space_clauses.specs.GatheringPrivate.{Adds, Gathers, IsFresh, IsKeptAt, IsKeptOf, IsLaterOf, IsNewOf};
+ghost use Rattle.dist_space.specs.EntryOrder.{AreMatchedAlike, IsEntryNamed};
 ghost use Rattle.dist_space.specs.Space.{IsMatchedBy, IsMeaning, fresh_classes, member_classes};
 ghost use Rattle.dist_space.specs.declared.meaning.Meaning.TheVariants as meaning;
 
@@ -44,6 +44,18 @@ pub(crate) fn add_variable(
     Ok(())
 }
 
+/// Whether an atom matches an entry of a new version.
+fn matches_kept(space: &Space, atom: &Atom, member: u32, class: u32, place: u32) -> bool
+    requires class { class < length (member_classes space.now member) }
+    requires place { IsEntryNamed space.now.repository.packages member atom.now.name place }
+    ensures { IsTrue result ↔ IsMatchedBy space.now atom.now (meaning.Kept member class place) }
+{
+    let package = space.package(member);
+    let entry = package.provides.get(place as usize);
+    let example = space.example(space.cluster_of(member), class);
+    matches_moved(space.repo(), atom, entry, &package.version, &example)
+}
+
 /// Adds an entry of a new version, if the atom matches it.
 fn add_entry(
     space: &Space,
@@ -57,16 +69,13 @@ fn add_entry(
     requires place { IsEntryNamed space.now.repository.packages member atom.now.name place }
     ensures { OnOk result (Adds space.now variables.old.items variables.new.items (λ m. (m ≡ meaning.Kept member class place) × IsMatchedBy space.now atom.now m)) }
 {
-    let package = space.package(member);
-    let entry = package.provides.get(place as usize);
-    let example = space.example(space.cluster_of(member), class);
-    if matches_moved(space.repo(), atom, entry, &package.version, &example) {
+    if matches_kept(space, atom, member, class, place) {
         return add_variable(space, Meaning::Kept(member, class, place), variables);
     }
     Ok(())
 }
 
-/// Adds the entries of a new version that the atom matches. `places` are those of the entries of its name.
+/// Adds those of some entries of a new version that the atom matches.
 fn add_entries(
     space: &Space,
     atom: &Atom,
@@ -76,11 +85,74 @@ fn add_entries(
     variables: &mut Vec<u32>,
 ) -> Result<(), AllocError>
     requires class { class < length (member_classes space.now member) }
-    requires places { (j : ℕ) → Contains places.now j ↔ IsEntryNamed space.now.repository.packages member atom.now.name j }
-    ensures { OnOk result (Adds space.now variables.old.items variables.new.items (λ m. IsKeptOf member class m × IsMatchedBy space.now atom.now m)) }
+    requires places { (j : ℕ) → Contains places.now j → IsEntryNamed space.now.repository.packages member atom.now.name j }
+    ensures { OnOk result (Gathers space.now variables.old.items variables.new.items (λ m. IsLaterOf member m × IsMatchedBy space.now atom.now m)
+        (λ m. Any (λ place. (m ≡ meaning.Kept member class place) × IsMatchedBy space.now atom.now m) places.now)) }
 {
     for place in places {
         add_entry(space, atom, member, class, *place, variables)?;
+    }
+    Ok(())
+}
+
+/// Adds entries of a new version that the atom matches alike, if it matches them.
+fn add_alike(
+    space: &Space,
+    atom: &Atom,
+    member: u32,
+    class: u32,
+    places: &[u32],
+    variables: &mut Vec<u32>,
+) -> Result<(), AllocError>
+    requires class { class < length (member_classes space.now member) }
+    requires places { (j : ℕ) → Contains places.now j → IsEntryNamed space.now.repository.packages member atom.now.name j }
+    requires alike { (class k : ℕ) → k < length places.now → AreMatchedAlike space.now atom.now member class (slice_index places.now 0) (slice_index places.now k) }
+    ensures { OnOk result (Gathers space.now variables.old.items variables.new.items (λ m. IsLaterOf member m × IsMatchedBy space.now atom.now m)
+        (λ m. Any (λ place. (m ≡ meaning.Kept member class place) × IsMatchedBy space.now atom.now m) places.now)) }
+{
+    if places.is_empty() || !matches_kept(space, atom, member, class, places[0]) {
+        return Ok(());
+    }
+    add_entries(space, atom, member, class, places, variables)
+}
+
+/// Adds entries of all new versions that the atom matches alike in each of these, if it matches them there.
+fn add_run(
+    space: &Space,
+    atom: &Atom,
+    member: u32,
+    places: &[u32],
+    variables: &mut Vec<u32>,
+) -> Result<(), AllocError>
+    requires member { member < length space.now.repository.packages }
+    requires places { (j : ℕ) → Contains places.now j → IsEntryNamed space.now.repository.packages member atom.now.name j }
+    requires alike { (class k : ℕ) → k < length places.now → AreMatchedAlike space.now atom.now member class (slice_index places.now 0) (slice_index places.now k) }
+    ensures { OnOk result (Gathers space.now variables.old.items variables.new.items (λ m. IsLaterOf member m × IsMatchedBy space.now atom.now m)
+        (λ m. Any (λ place. IsKeptAt member place m × IsMatchedBy space.now atom.now m) places.now)) }
+{
+    for class in 0..space.class_count(space.cluster_of(member)) {
+        add_alike(space, atom, member, class, places, variables)?;
+    }
+    Ok(())
+}
+
+/// Adds the entries of all new versions of a package that the atom matches. Those that it matches alike stand together, so that
+/// they are looked at one by one only where it matches them.
+fn add_kept(
+    space: &Space,
+    atom: &Atom,
+    member: u32,
+    variables: &mut Vec<u32>,
+) -> Result<(), AllocError>
+    requires { member < length space.now.repository.packages }
+    ensures { OnOk result (Gathers space.now variables.old.items variables.new.items (λ m. IsLaterOf member m × IsMatchedBy space.now atom.now m)
+        (λ m. IsKeptOf member m × IsMatchedBy space.now atom.now m)) }
+{
+    let mut rest = space.entries_named(member, &atom.name);
+    while !rest.is_empty() {
+        let (alike, others) = rest.split_at(space.alike_count(member, atom, rest));
+        add_run(space, atom, member, alike, variables)?;
+        rest = others;
     }
     Ok(())
 }
@@ -105,22 +177,22 @@ fn add_new(
     Ok(())
 }
 
-/// Adds what the atom matches of a new version. `places` are those of the entries of its name.
-fn add_version(
+/// Adds the new versions of a package whose name and version the atom matches.
+fn add_versions(
     space: &Space,
     atom: &Atom,
     member: u32,
-    class: u32,
-    places: &[u32],
     variables: &mut Vec<u32>,
 ) -> Result<(), AllocError>
-    requires member { member < length space.now.repository.packages }
-    requires class { class < length (member_classes space.now member) }
-    requires places { (j : ℕ) → Contains places.now j ↔ IsEntryNamed space.now.repository.packages member atom.now.name j }
-    ensures { OnOk result (Adds space.now variables.old.items variables.new.items (λ m. IsOfVersion member class m × IsMatchedBy space.now atom.now m)) }
+    requires { member < length space.now.repository.packages }
+    ensures { OnOk result (Gathers space.now variables.old.items variables.new.items (λ m. IsLaterOf member m × IsMatchedBy space.now atom.now m)
+        (λ m. IsNewOf member m × IsMatchedBy space.now atom.now m)) }
 {
-    add_new(space, atom, space.package(member), member, class, variables)?;
-    add_entries(space, atom, member, class, places, variables)
+    let package = space.package(member);
+    for class in 0..space.class_count(space.cluster_of(member)) {
+        add_new(space, atom, package, member, class, variables)?;
+    }
+    Ok(())
 }
 
 /// Adds what the atom matches of all new versions of a package.
@@ -133,11 +205,8 @@ pub(crate) fn add_later(
     requires { member < length space.now.repository.packages }
     ensures { OnOk result (Adds space.now variables.old.items variables.new.items (λ m. IsLaterOf member m × IsMatchedBy space.now atom.now m)) }
 {
-    let places = space.entries_named(member, &atom.name);
-    for class in 0..space.class_count(space.cluster_of(member)) {
-        add_version(space, atom, member, class, places, variables)?;
-    }
-    Ok(())
+    add_versions(space, atom, member, variables)?;
+    add_kept(space, atom, member, variables)
 }
 
 /// Adds a package of a new name, if its class meets the atom's bound.

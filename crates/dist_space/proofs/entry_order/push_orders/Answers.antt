@@ -9,15 +9,16 @@ use Rattle.dist_space.proofs.entry_order.push_orders.Goals as goal
 pub loop-number-preserved : goal.loop-number-preserved
 loop-number-preserved c =
     let packages = c.args.frame.now.repository.packages in
+    let architecture = c.args.frame.now.repository.architecture in
     let p : Package = c.package.result.now in
     let before = c.loop-number.orders in
     let order = c.deref.result.now in
     let n = c.loop-number.number in
     let is : c.push.new.self ≡ before ++ order ∷ [] = c.in_ok-push.ensures.ok in
-    let ordered : IsEntryOrder p.provides order = subst (IsEntryOrder p.provides) (sym c.deref.ensures.value) c.in_ok-write_order.ensures in
+    let ordered : IsEntryOrder architecture p.provides order = subst (IsEntryOrder architecture p.provides) (sym c.deref.ensures.value) c.in_ok-write_order.ensures in
     record {
       counted = count-pushed before c.push.new.self order n is c.loop-number.invariant.counted;
-      each = order-pushed packages before c.push.new.self order n p is c.loop-number.invariant.counted c.package.ensures.value ordered
+      each = order-pushed architecture packages before c.push.new.self order n p is c.loop-number.invariant.counted c.package.ensures.value ordered
           c.loop-number.invariant.each;
     }
 
