@@ -1,6 +1,7 @@
 mod RisingLemmas
 mod SetLemmas
 mod RuleLemmas
+mod KeptLemmas
 mod CoverLemmas
 mod MarkLemmas
 mod ChallengeLemmas

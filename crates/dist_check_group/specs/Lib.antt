@@ -1,4 +1,5 @@
 pub mod Layout
+pub mod KeptPrivate
 pub mod Window
 pub mod Closed
 pub mod Common

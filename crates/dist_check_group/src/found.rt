@@ -17,7 +17,7 @@ use crate::held::{Asked, held_by_one};
 use crate::layout::Layout;
 use crate::marks::Marks;
 use crate::numbers::{has, keep_common, put_in_order};
-use crate::rules::each_once;
+use crate::rules::small_first;
 use crate::window::Window;
 use std::alloc::{AllocError, Global};
 use std::marker::Model;
@@ -167,15 +167,6 @@ impl Found {
     }
 }
 
-/// The installations that a claim names, each once, those of fewer members before those of more.
-fn small_first(alloc: Global, window: &Window, named: &[u32]) -> Result<Vec<u32>, AllocError>
-    ensures { IfOk result (λ sorted. (q : ℕ) → Contains sorted.items q ↔ Contains named.now q) }
-{
-    let mut sorted = each_once(alloc, named)?;
-    sorted.sort_unstable_by_key(|number| window.members(*number).len());
-    Ok(sorted)
-}
-
 /// Whether a test asks for a cluster.
 fn is_asked(layout: &Layout, found: &Found, variable: u32, cluster: u32) -> bool
     ensures { result ≡ is_asked layout.now found.now variable cluster }
@@ -203,7 +194,7 @@ fn keep_used(
     if kept.is_empty() {
         return Ok(());
     }
-    let used = used_by(alloc, layout, window.members(number))?;
+    let used = used_by_one(alloc, layout, window, number)?;
     keep_common(kept, &used);
     Ok(())
 }
@@ -224,6 +215,20 @@ fn keep_used_by_each(
     Ok(())
 }
 
+/// The clusters that the installation of a number uses.
+fn used_by_one(
+    alloc: Global,
+    layout: &Layout,
+    window: &Window,
+    number: u32,
+) -> Result<Vec<u32>, AllocError>
+    ensures value { IfOk result (λ found. (c : ℕ) → is_among found.items c ≡ is_among (used layout.now (members_at window.now number)) c) }
+    ensures rising { IfOk result (λ found. AreRising found.items) }
+{
+    let members = window.members(alloc, number)?;
+    used_by(alloc, layout, &members)
+}
+
 /// The clusters that one of the claim's installations uses, narrowed by those of the group.
 fn first_used(
     alloc: Global,
@@ -239,7 +244,7 @@ fn first_used(
         return Ok(clusters.to_vec(alloc)?);
     }
     match named.first() {
-        Some(number) => used_by(alloc, layout, window.members(*number)),
+        Some(number) => used_by_one(alloc, layout, window, *number),
         None => Ok(Vec::new(alloc)),
     }
 }

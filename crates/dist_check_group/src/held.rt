@@ -2,7 +2,7 @@
 //! walked, and in a large one each of these variables is looked up.
 ghost use Rattle.std.specs.Prelude.{◌≡◌, ◌==◌, ◌&&◌, ◌||◌, ℕ, true, IfOk, OnOk, not};
 ghost use Rattle.std.specs.List.{list_any};
-ghost use Rattle.dist_cert.specs.Rising.{AreRising, is_among};
+ghost use Rattle.dist_cert.specs.Rising.{is_among};
 ghost use Rattle.dist_check_group.specs.Layout.{classes_of, is_package, non_packages};
 ghost use Rattle.dist_check_group.specs.Window.{members_at};
 ghost use Rattle.dist_check_group.specs.Challenge.{is_held};
@@ -10,9 +10,9 @@ ghost use Rattle.dist_check_group.specs.MarksPrivate.{is_marked};
 ghost use Rattle.dist_check_group.specs.FoundPrivate.{may_ask};
 
 use crate::group::Group;
+use crate::kept::Kept;
 use crate::layout::Layout;
 use crate::marks::Marks;
-use crate::numbers::has;
 use crate::window::Window;
 use std::alloc::{AllocError, Global};
 
@@ -60,15 +60,14 @@ fn mark_all(layout: &Layout, members: &[u32], held: &mut Marks) -> Result<(), Al
 /// Marks a variable where it is one of these members.
 fn mark_one(
     layout: &Layout,
-    members: &[u32],
+    members: &Kept,
     variable: u32,
     held: &mut Marks,
 ) -> Result<(), AllocError>
-    requires { AreRising members.now }
     ensures { OnOk result ((v : ℕ) → is_marked held.new v
         ≡ (is_marked held.old v || ((v == variable) && is_among (non_packages layout.now members.now) v))) }
 {
-    if !has(members, variable) {
+    if !members.has(variable) {
         return Ok(());
     }
     mark(layout, variable, held)?;
@@ -78,11 +77,10 @@ fn mark_one(
 /// Marks those of some variables that are among these members.
 fn mark_some(
     layout: &Layout,
-    members: &[u32],
+    members: &Kept,
     variables: &[u32],
     held: &mut Marks,
 ) -> Result<(), AllocError>
-    requires { AreRising members.now }
     ensures { OnOk result ((v : ℕ) → is_marked held.new v
         ≡ (is_marked held.old v || (is_among variables.now v && is_among (non_packages layout.now members.now) v))) }
 {
@@ -95,11 +93,10 @@ fn mark_some(
 /// Marks those of the classes of some clusters that are among these members.
 fn mark_classes(
     layout: &Layout,
-    members: &[u32],
+    members: &Kept,
     clusters: &[u32],
     held: &mut Marks,
 ) -> Result<(), AllocError>
-    requires { AreRising members.now }
     ensures { OnOk result ((v : ℕ) → is_marked held.new v
         ≡ (is_marked held.old v
         || (list_any (λ cluster. is_among (classes_of layout.now cluster) v) clusters.now && is_among (non_packages layout.now members.now) v))) }
@@ -113,11 +110,10 @@ fn mark_classes(
 /// Marks those of the variables that may be asked for that are among these members.
 fn mark_asked(
     layout: &Layout,
-    members: &[u32],
+    members: &Kept,
     asked: &Asked<'_>,
     held: &mut Marks,
 ) -> Result<(), AllocError>
-    requires { AreRising members.now }
     ensures { OnOk result ((v : ℕ) → is_marked held.new v
         ≡ (is_marked held.old v
         || (may_ask layout.now asked.now.undecided.now asked.now.clusters.now v && is_among (non_packages layout.now members.now) v))) }
@@ -131,26 +127,47 @@ fn mark_asked(
 /// Marks what an installation holds besides packages: all of it, or what may be asked for where it has more members than
 /// the limit.
 fn mark_held(
+    alloc: Global,
     layout: &Layout,
-    members: &[u32],
+    members: &Kept,
     asked: &Asked<'_>,
     limit: usize,
     held: &mut Marks,
 ) -> Result<(), AllocError>
-    requires { AreRising members.now }
     ensures { OnOk result ((v : ℕ) → may_ask layout.now asked.now.undecided.now asked.now.clusters.now v ≡ true
         → is_marked held.new v ≡ (is_marked held.old v || is_among (non_packages layout.now members.now) v)) }
 {
-    if members.len() > limit {
+    if members.size() > limit {
         mark_asked(layout, members, asked, held)?;
         return Ok(());
     }
-    mark_all(layout, members, held)?;
+    let listed = members.listed(alloc)?;
+    mark_all(layout, &listed, held)?;
     Ok(())
+}
+
+/// The same of the installation of a number.
+fn mark_number(
+    alloc: Global,
+    layout: &Layout,
+    window: &Window,
+    number: u32,
+    asked: &Asked<'_>,
+    limit: usize,
+    held: &mut Marks,
+) -> Result<(), AllocError>
+    ensures { OnOk result ((v : ℕ) → may_ask layout.now asked.now.undecided.now asked.now.clusters.now v ≡ true
+        → is_marked held.new v ≡ (is_marked held.old v || is_among (non_packages layout.now (members_at window.now number)) v)) }
+{
+    match window.get(number) {
+        Some(members) => mark_held(alloc, layout, members, asked, limit, held),
+        None => Ok(()),
+    }
 }
 
 /// Marks what the installations that are named hold besides packages.
 fn mark_named(
+    alloc: Global,
     layout: &Layout,
     window: &Window,
     named: &[u32],
@@ -163,7 +180,7 @@ fn mark_named(
 {
     let limit = asked_count(layout, asked).saturating_mul(MEMBERS_PER_VARIABLE);
     for number in named {
-        mark_held(layout, window.members(*number), asked, limit, held)?;
+        mark_number(alloc, layout, window, *number, asked, limit, held)?;
     }
     Ok(())
 }
@@ -182,6 +199,6 @@ pub(crate) fn held_by_one(
 {
     let mut held = Marks::new(alloc, layout.bound())?;
     held.add_all(group.held())?;
-    mark_named(layout, window, named, asked, &mut held)?;
+    mark_named(alloc, layout, window, named, asked, &mut held)?;
     Ok(held)
 }

@@ -14,6 +14,7 @@ mod cover;
 mod found;
 mod group;
 mod held;
+mod kept;
 mod layout;
 mod marks;
 mod number_set;

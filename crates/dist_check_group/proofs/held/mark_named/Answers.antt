@@ -17,8 +17,7 @@ loop-number-preserved c = λ v may.
     let i = c.loop-number.number-index in
     let layout = c.args.layout.now in
     let holds : ℕ → Bool = λ number. is_among (non_packages layout (members_at c.args.window.now number)) v in
-    c.in_ok-mark_held.ensures v may
-    ∙ ap (λ (xs : List ℕ). is_marked c.loop-number.held v || is_among (non_packages layout xs) v) c.members.ensures.value
+    c.in_ok-mark_number.ensures v may
     ∙ ap (λ (b : Bool). b || holds (get_or named i 0)) (c.loop-number.invariant v may)
     ∙ named-more holds named i (is_marked c.args.held.now v) c.loop-number-test.true
 
