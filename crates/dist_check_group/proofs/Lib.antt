@@ -2,6 +2,7 @@ mod RisingLemmas
 mod SetLemmas
 mod RuleLemmas
 mod KeptLemmas
+mod WindowLemmas
 mod CoverLemmas
 mod MarkLemmas
 mod ChallengeLemmas

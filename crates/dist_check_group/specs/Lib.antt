@@ -8,3 +8,4 @@ pub mod Group
 pub mod Challenge
 pub mod MarksPrivate
 pub mod FoundPrivate
+pub mod WindowPrivate

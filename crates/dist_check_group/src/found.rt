@@ -249,6 +249,27 @@ fn first_used(
     }
 }
 
+/// Leaves out clusters that one of the large installations that are named does not use. Each that all use stays.
+fn leave_out_unused(
+    alloc: Global,
+    layout: &Layout,
+    window: &Window,
+    named: &[u32],
+    clusters: Vec<u32>,
+) -> Result<Vec<u32>, AllocError>
+    requires { AreRising clusters.items }
+    ensures value { IfOk result (λ left. (c : ℕ) → (is_among left.items c && use_each layout.now window.now named.now c)
+        ≡ (is_among clusters.items c && use_each layout.now window.now named.now c)) }
+    ensures rising { IfOk result (λ left. AreRising left.items) }
+{
+    if !window.may_narrow(named) || clusters.is_empty() {
+        return Ok(clusters);
+    }
+    let mut kept = window.keep_clusters(alloc, clusters)?;
+    window.leave_out_unused(alloc, layout, named, &mut kept)?;
+    Ok(kept.listed(alloc)?)
+}
+
 /// Of the clusters that one of the claim's installations uses those that all of them use, and that a test asks for.
 fn used_by_all(
     alloc: Global,
@@ -266,6 +287,7 @@ fn used_by_all(
 {
     let mut used = first;
     keep_asked(layout, found, variable, &mut used);
+    let mut used = leave_out_unused(alloc, layout, window, named, used)?;
     keep_used_by_each(alloc, layout, window, named, &mut used)?;
     Ok(used)
 }

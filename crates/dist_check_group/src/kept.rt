@@ -84,6 +84,11 @@ impl Kept {
         })
     }
 
+    /// Whether they are a row.
+    pub(crate) fn is_row(&self) -> bool {
+        matches!(&self.form, Form::Placed(_))
+    }
+
     /// How many there were at first.
     pub(crate) fn size(&self) -> usize {
         self.size

@@ -375,7 +375,7 @@ impl State {
         let variable = self.next_variable();
         self.group
             .add_installation(alloc, &self.layout, variable, variables.as_slice())?;
-        self.window.add(alloc, variables)
+        self.window.add(alloc, &self.layout, variables)
     }
 
     /// Ends the group with a claim on the next package.

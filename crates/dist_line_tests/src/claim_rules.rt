@@ -25,7 +25,7 @@ fn install(
         return Ok(());
     }
     group.add_installation(alloc, layout, variable, members)?;
-    window.add(alloc, Items::from_vec(members.to_vec(alloc)?))
+    window.add(alloc, layout, Items::from_vec(members.to_vec(alloc)?))
 }
 
 /// Of two installations of the first of three packages the second one has no third package. The second package is refuted,
