@@ -1,7 +1,7 @@
 //! What is looked up for a claim on challenges: once for the claim, so that each test of it is a halving. A claim that is
 //! right lists nearly all that it must, so few clusters are left to be looked for in the installations that it names. Of
 //! these the small ones come first: the smallest one tells which clusters may be used, where the group has no installation,
-//! and a large one is walked only for clusters that all smaller ones use.
+//! what large ones don't use is left out by words, and a large one is walked only for clusters that are left then.
 ghost use Rattle.std.specs.Prelude.{◌≡◌, ◌==◌, ◌&&◌, ◌↔◌, ℕ, true, Contains, IfOk, OnOk, filter, length, map, not};
 ghost use Rattle.dist_cert.specs.Rising.{AreRising, is_among};
 ghost use Rattle.dist_check_group.specs.Layout.{at_class, used};
