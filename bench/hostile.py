@@ -128,6 +128,27 @@ def hints(n):
     return packages, header("plain", f"{wide + 1} {wide + 1} 1") + f"d {literals} 0{' 1' * n}\n"
 
 
+def named_by_each(kind, n):
+    """Packages of which a half is installed as often as fits beside two installations for each bit of their numbers, each of which has those with this bit
+    or without it, and the other half. Each claim on one of the first half names all of the former and those of the latter that have it, which have
+    nothing else in common. Each of the other half is installed alone."""
+    half, shift = n // 2, int(kind == "challenged")
+    bits = max(1, (half - 1).bit_length())
+    copies = 1_024 - 2 * bits
+    installed = lambda members: "m " + " ".join(map(str, [1] * shift + [k + shift for k in members])) + "\n"
+    lines = installed(range(1, half + 1)) * copies
+    for bit in range(bits):
+        for value in (0, 1):
+            lines += installed([k for k in range(1, half + 1) if k - 1 >> bit & 1 == value] + list(range(half + 1, n + 1)))
+    letter, copied = "c" if shift else "s", " ".join(str(k + 1) for k in range(copies))
+    for k in range(1, half + 1):
+        lines += f"{letter} {k} {copied} " + " ".join(str(copies + 2 * bit + (k - 1 >> bit & 1) + 1) for bit in range(bits)) + " 0 0\n"
+    lines += "".join(installed([k]) + f"{letter} {k} {copies + 2 * bits + k - half} 0 0\n" for k in range(half + 1, n + 1))
+    variables, clauses = (3 * n + 1, 3 * n) if shift else (n, 0)
+    first = f"distfuture-certificate 1 {kind} plain 10000 {n} {variables} {clauses}\n"
+    return "".join(stanza(f"p{k:06}") for k in range(n)), first + lines + "e\n"
+
+
 def wide_line(n):
     """An installation of so many variables that none of them is there."""
     return stanza("a"), header("plain", "1 1 0") + "m " + " ".join(str(k) for k in range(1, n)) + "\n"
@@ -394,6 +415,8 @@ ROWS = {
         stanza("q", more="Provides: " + ", ".join(["a"] * (n // 2)) + "\n") + "".join(stanza(f"p{k}", more="Depends: a\n") for k in range(n // 2)))),
     "more clauses than may be": (40_000, lambda n: clauses("".join(stanza(f"p{k}", more="Provides: x\nConflicts: x\n") for k in range(n)))),
     "one false hint told again and again": (100_000, lambda n: checked(*hints(n))),
+    "so many packages, half of them in a thousand installations that each claim on one names": (8_000, lambda n: checked(*named_by_each("strong", n))),
+    "so many in a thousand installations that each claim on challenges names": (8_000, lambda n: checked(*named_by_each("challenged", n))),
     "one line of so many numbers": (6_000_000, lambda n: checked(*wide_line(n))),
     "a package in so many conflicts, installed again and again": (20_000, lambda n: checked(*installed_again(n))),
     "one item told again and again, installed as often": (20_000, lambda n: checked(*equal_items(n))),

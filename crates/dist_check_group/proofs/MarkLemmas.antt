@@ -2,7 +2,7 @@
 use Rattle.std.proofs.Common.{◌≡◌, ℕ, ◌+◌, ◌<◌, ◌==◌, ◌&&◌, ◌||◌, Bool, true, false, not, List, length}
 use Rattle.std.proofs.Common.{get_or, refl, sym, ap, ◌∙◌, take}
 use Rattle.std.specs.List.{list_any}
-use Rattle.std.proofs.lemmas.Bool.{eqb-true}
+use Rattle.std.proofs.lemmas.Bool.{false≢true}
 use Rattle.std.proofs.lemmas.List.Folds.{list_any_more}
 use Rattle.dist_cert.specs.Rising.{is_among}
 use Rattle.dist_check_group.specs.Layout.{LayoutView, is_package, non_packages}
@@ -50,53 +50,14 @@ is-held layout member v before is =
     and-all true = refl
     and-all false = refl
 
-or-swap : (a b : Bool) → (a || b) ≡ (b || a)
-or-swap true true = refl
-or-swap true false = refl
-or-swap false true = refl
-or-swap false false = refl
+-- ---- what is wanted: whether a variable is, is marked, is a package, and is a member
 
--- ---- one that is looked up
-
-pub found-one : (layout : LayoutView) (members : List ℕ) (variable v : ℕ) (before : Bool) → is_among members variable ≡ true
-    → (((v == variable) && not (is_package layout variable)) || before)
-    ≡ (before || ((v == variable) && is_among (non_packages layout members) v))
-found-one layout members variable v before there = at (v == variable) refl
-  where
-    at : (b : Bool) → (v == variable) ≡ b → ((b && not (is_package layout variable)) || before) ≡ (before || (b && is_among (non_packages layout members) v))
-    at false other = or-none before
-    at true same =
-        or-swap (not (is_package layout variable)) before
-        ∙ ap (λ (b : Bool). before || b) (sym (among-filter (λ n. not (is_package layout n)) members v
-        ∙ ap (λ (n : ℕ). is_among members n && not (is_package layout n)) (eqb-true v variable same)
-        ∙ ap (λ (b : Bool). b && not (is_package layout variable)) there))
-
-pub found-none : (layout : LayoutView) (members : List ℕ) (variable v : ℕ) (before : Bool) → is_among members variable ≡ false
-    → before ≡ (before || ((v == variable) && is_among (non_packages layout members) v))
-found-none layout members variable v before absent = at (v == variable) refl
-  where
-    at : (b : Bool) → (v == variable) ≡ b → before ≡ (before || (b && is_among (non_packages layout members) v))
-    at false other = or-none before
-    at true same =
-        or-none before
-        ∙ ap (λ (b : Bool). before || b) (sym (among-filter (λ n. not (is_package layout n)) members v
-        ∙ ap (λ (n : ℕ). is_among members n && not (is_package layout n)) (eqb-true v variable same)
-        ∙ ap (λ (b : Bool). b && not (is_package layout variable)) absent))
-
--- those that one test or another one asks for
-pub either-asks : (before a b held : Bool) → ((before || (a && held)) || (b && held)) ≡ (before || ((a || b) && held))
-either-asks true a b held = refl
-either-asks false true true true = refl
-either-asks false true true false = refl
-either-asks false true false true = refl
-either-asks false true false false = refl
-either-asks false false b held = refl
-
-pub asked-more : (test : ℕ → Bool) (xs : List ℕ) (i : ℕ) (before held : Bool) → i < length xs
-    → ((before || (list_any test (take i xs) && held)) || (test (get_or xs i 0) && held)) ≡ (before || (list_any test (take (i + 1) xs) && held))
-asked-more test xs i before held within =
-    either-asks before (list_any test (take i xs)) (test (get_or xs i 0)) held
-    ∙ ap (λ (b : Bool). before || (b && held)) (sym (list_any_more test xs i 0 within))
+pub wanted-told : (w h p m : Bool) → (w || (h || p)) ≡ true → (h || ((w && m) && not p)) ≡ (h || (m && not p))
+wanted-told true h p m some = refl
+wanted-told false true p m some = refl
+wanted-told false false true true some = refl
+wanted-told false false true false some = refl
+wanted-told false false false m some = absurd (false≢true some)
 
 -- ---- one installation more
 

@@ -2,7 +2,7 @@
 use Rattle.std.specs.Prelude.{◌≡◌, ◌==◌, ◌&&◌, ◌||◌, ℕ, Bool, true, List, length, map, nat_le, not}
 use Rattle.std.specs.List.{list_any}
 use Rattle.dist_cert.specs.Rising.{is_among}
-use Rattle.dist_check_group.specs.Layout.{LayoutView, at_class, classes_of, cluster_of}
+use Rattle.dist_check_group.specs.Layout.{LayoutView, at_class, classes_of, cluster_of, is_package}
 use Rattle.dist_check_group.specs.Window.{WindowView}
 use Rattle.dist_check_group.specs.Cover.{CoverView}
 use Rattle.dist_check_group.specs.Challenge.{is_held, is_used}
@@ -33,6 +33,10 @@ is_asked layout found variable cluster = not (length found.undecided == 0) || le
 abbrev pub may_ask : LayoutView → List ℕ → List ℕ → ℕ → Bool
 may_ask layout undecided clusters v =
     (v == 1) || is_among undecided v || list_any (λ cluster. is_among (classes_of layout cluster) v) clusters
+
+-- the variable is one of those that are wanted still, unless it is marked or a package
+abbrev pub is_wanted : LayoutView → List ℕ → MarksView → ℕ → Bool
+is_wanted layout wanted held v = is_among wanted v || (is_marked held v || is_package layout v)
 
 -- the marks tell whether one of the claim's installations holds the variable
 abbrev pub TellsHeld : LayoutView → WindowView → CoverView → List ℕ → FoundView → ℕ → Type 0

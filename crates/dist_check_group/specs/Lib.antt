@@ -1,4 +1,5 @@
 pub mod Layout
+pub mod KeptPrivate
 pub mod Window
 pub mod Closed
 pub mod Common
@@ -7,3 +8,4 @@ pub mod Group
 pub mod Challenge
 pub mod MarksPrivate
 pub mod FoundPrivate
+pub mod WindowPrivate

@@ -1,7 +1,7 @@
 //! What is looked up for a claim on challenges: once for the claim, so that each test of it is a halving. A claim that is
 //! right lists nearly all that it must, so few clusters are left to be looked for in the installations that it names. Of
 //! these the small ones come first: the smallest one tells which clusters may be used, where the group has no installation,
-//! and a large one is walked only for clusters that all smaller ones use.
+//! what large ones don't use is left out by words, and a large one is walked only for clusters that are left then.
 ghost use Rattle.std.specs.Prelude.{◌≡◌, ◌==◌, ◌&&◌, ◌↔◌, ℕ, true, Contains, IfOk, OnOk, filter, length, map, not};
 ghost use Rattle.dist_cert.specs.Rising.{AreRising, is_among};
 ghost use Rattle.dist_check_group.specs.Layout.{at_class, used};
@@ -17,7 +17,7 @@ use crate::held::{Asked, held_by_one};
 use crate::layout::Layout;
 use crate::marks::Marks;
 use crate::numbers::{has, keep_common, put_in_order};
-use crate::rules::each_once;
+use crate::rules::small_first;
 use crate::window::Window;
 use std::alloc::{AllocError, Global};
 use std::marker::Model;
@@ -167,15 +167,6 @@ impl Found {
     }
 }
 
-/// The installations that a claim names, each once, those of fewer members before those of more.
-fn small_first(alloc: Global, window: &Window, named: &[u32]) -> Result<Vec<u32>, AllocError>
-    ensures { IfOk result (λ sorted. (q : ℕ) → Contains sorted.items q ↔ Contains named.now q) }
-{
-    let mut sorted = each_once(alloc, named)?;
-    sorted.sort_unstable_by_key(|number| window.members(*number).len());
-    Ok(sorted)
-}
-
 /// Whether a test asks for a cluster.
 fn is_asked(layout: &Layout, found: &Found, variable: u32, cluster: u32) -> bool
     ensures { result ≡ is_asked layout.now found.now variable cluster }
@@ -203,7 +194,7 @@ fn keep_used(
     if kept.is_empty() {
         return Ok(());
     }
-    let used = used_by(alloc, layout, window.members(number))?;
+    let used = used_by_one(alloc, layout, window, number)?;
     keep_common(kept, &used);
     Ok(())
 }
@@ -224,6 +215,20 @@ fn keep_used_by_each(
     Ok(())
 }
 
+/// The clusters that the installation of a number uses.
+fn used_by_one(
+    alloc: Global,
+    layout: &Layout,
+    window: &Window,
+    number: u32,
+) -> Result<Vec<u32>, AllocError>
+    ensures value { IfOk result (λ found. (c : ℕ) → is_among found.items c ≡ is_among (used layout.now (members_at window.now number)) c) }
+    ensures rising { IfOk result (λ found. AreRising found.items) }
+{
+    let members = window.members(alloc, number)?;
+    used_by(alloc, layout, &members)
+}
+
 /// The clusters that one of the claim's installations uses, narrowed by those of the group.
 fn first_used(
     alloc: Global,
@@ -239,9 +244,30 @@ fn first_used(
         return Ok(clusters.to_vec(alloc)?);
     }
     match named.first() {
-        Some(number) => used_by(alloc, layout, window.members(*number)),
+        Some(number) => used_by_one(alloc, layout, window, *number),
         None => Ok(Vec::new(alloc)),
     }
+}
+
+/// Leaves out clusters that one of the large installations that are named does not use. Each that all use stays.
+fn leave_out_unused(
+    alloc: Global,
+    layout: &Layout,
+    window: &Window,
+    named: &[u32],
+    clusters: Vec<u32>,
+) -> Result<Vec<u32>, AllocError>
+    requires { AreRising clusters.items }
+    ensures value { IfOk result (λ left. (c : ℕ) → (is_among left.items c && use_each layout.now window.now named.now c)
+        ≡ (is_among clusters.items c && use_each layout.now window.now named.now c)) }
+    ensures rising { IfOk result (λ left. AreRising left.items) }
+{
+    if !window.may_narrow(named) || clusters.is_empty() {
+        return Ok(clusters);
+    }
+    let mut kept = window.keep_clusters(alloc, clusters)?;
+    window.leave_out_unused(alloc, layout, named, &mut kept)?;
+    Ok(kept.listed(alloc)?)
 }
 
 /// Of the clusters that one of the claim's installations uses those that all of them use, and that a test asks for.
@@ -261,6 +287,7 @@ fn used_by_all(
 {
     let mut used = first;
     keep_asked(layout, found, variable, &mut used);
+    let mut used = leave_out_unused(alloc, layout, window, named, used)?;
     keep_used_by_each(alloc, layout, window, named, &mut used)?;
     Ok(used)
 }

@@ -1,11 +1,12 @@
 //! What a checker keeps of the latest installations and of a claim's group, and the rules of a claim on strong
 //! dependencies or on challenges.
 //!
-//! Installations are rising lists, looked up by halving; of what all of a claim's installations share only that is looked for
+//! Small installations are rising lists, looked up by halving, and large ones rows of bits, compared by words: what all of a
+//! claim's installations have, which clusters they use, and what one of them holds. Of what they share only that is looked for
 //! which the claim does not list. A claim on challenges costs its lists, the classes of the clusters that the group's
 //! installations use, or else the smallest one that it names, and a bit for each variable. Each one that it names costs its
-//! members, or a halving for each of these classes where they are far fewer. There is no other walk over all clusters,
-//! variables or packages, but for a cluster that is left: it is looked for among all members, in the small installations first.
+//! members, or a word for 64 variables and 64 clusters where it is a row. There is no other walk over all clusters, variables or
+//! packages, but for a cluster that is left: it is looked for among all members, in the small installations first.
 #![tactic(auto)]
 
 mod challenge;
@@ -14,6 +15,7 @@ mod cover;
 mod found;
 mod group;
 mod held;
+mod kept;
 mod layout;
 mod marks;
 mod number_set;

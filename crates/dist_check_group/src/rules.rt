@@ -1,12 +1,13 @@
 //! The rules of a claim on strong dependencies.
-ghost use Rattle.std.specs.Prelude.{◌≡◌, ◌==◌, ◌&&◌, ◌↔◌, ℕ, Contains, IsTrue, IfOk, filter, not};
+ghost use Rattle.std.specs.Prelude.{◌≡◌, ◌==◌, ◌&&◌, ◌↔◌, ℕ, Contains, IsTrue, IfOk, OnOk, filter, not};
 ghost use Rattle.std.specs.List.{list_any};
 ghost use Rattle.dist_check_group.specs.Group.{AreListsRight, TellsRules, candidates, in_each};
 ghost use Rattle.dist_cert.specs.Rising.{AreRising, is_among};
-ghost use Rattle.dist_check_group.specs.Window.{has_member, kept_at};
+ghost use Rattle.dist_check_group.specs.Window.{has_member, kept_at, members_at};
 
 use crate::group::Group;
-use crate::numbers::{are_others, has, has_all, has_any, is_rising, keep_common};
+use crate::kept::Kept;
+use crate::numbers::{are_others, has, has_all, has_any, is_rising};
 use crate::window::Window;
 use dist_cert::CertCause;
 use std::alloc::{AllocError, Global};
@@ -27,22 +28,36 @@ pub(crate) fn is_in_each(window: &Window, named: &[u32], variable: u32) -> bool
     named.iter().all(|number| window.has(*number, variable))
 }
 
+/// The members of the installation of a number, and none where it is not kept.
+fn copy_of(alloc: Global, window: &Window, number: u32) -> Result<Kept, AllocError>
+    ensures { IfOk result (λ found. found ≡ members_at window.now number) }
+{
+    match window.get(number) {
+        Some(members) => members.copied(alloc),
+        None => Ok(Kept::none(alloc)),
+    }
+}
+
 /// The members of one of the claim's installations, narrowed by those of the group.
-fn candidates<'a>(window: &'a Window, group: &'a Group, named: &[u32]) -> &'a [u32]
-    ensures value { result.now ≡ candidates window.now group.now.common named.now }
-    ensures rising { AreRising result.now }
+fn candidates(
+    alloc: Global,
+    window: &Window,
+    group: &Group,
+    named: &[u32],
+) -> Result<Kept, AllocError>
+    ensures { IfOk result (λ found. found ≡ candidates window.now group.now.common named.now) }
 {
     if let Some(common) = group.common() {
-        return common;
+        return window.keep(alloc, common.to_vec(alloc)?);
     }
     match named.first() {
-        Some(number) => window.get(*number).unwrap_or(&[]),
-        None => &[],
+        Some(number) => copy_of(alloc, window, *number),
+        None => Ok(Kept::none(alloc)),
     }
 }
 
 /// Numbers in their order, each once.
-pub(crate) fn each_once(alloc: Global, numbers: &[u32]) -> Result<Vec<u32>, AllocError>
+fn each_once(alloc: Global, numbers: &[u32]) -> Result<Vec<u32>, AllocError>
     ensures { IfOk result (λ sorted. (q : ℕ) → Contains sorted.items q ↔ Contains numbers.now q) }
 {
     let mut sorted = numbers.to_vec(alloc)?;
@@ -51,31 +66,50 @@ pub(crate) fn each_once(alloc: Global, numbers: &[u32]) -> Result<Vec<u32>, Allo
     Ok(sorted)
 }
 
+/// The installations that a claim names, each once, those of fewer members before those of more.
+pub(crate) fn small_first(
+    alloc: Global,
+    window: &Window,
+    named: &[u32],
+) -> Result<Vec<u32>, AllocError>
+    ensures { IfOk result (λ sorted. (q : ℕ) → Contains sorted.items q ↔ Contains named.now q) }
+{
+    let mut sorted = each_once(alloc, named)?;
+    sorted.sort_unstable_by_key(|number| window.size(*number));
+    Ok(sorted)
+}
+
 /// Keeps the packages that the installation of a number has.
-fn keep_members(window: &Window, number: u32, kept: &mut Vec<u32>)
-    ensures { kept.new.items ≡ filter (has_member (kept_at window.now number)) kept.old.items }
+fn keep_members(
+    alloc: Global,
+    window: &Window,
+    number: u32,
+    kept: &mut Kept,
+) -> Result<(), AllocError>
+    ensures { OnOk result (kept.new ≡ filter (has_member (kept_at window.now number)) kept.old) }
 {
     match window.get(number) {
-        Some(members) => keep_common(kept, members),
-        None => kept.clear(),
+        Some(members) => kept.narrow(alloc, members),
+        None => {
+            *kept = Kept::none(alloc);
+            Ok(())
+        }
     }
 }
 
 /// Keeps the packages that are in all installations that are named.
-fn keep_in_each(window: &Window, named: &[u32], kept: &mut Vec<u32>)
-    ensures { kept.new.items ≡ filter (in_each window.now named.now) kept.old.items }
+fn keep_in_each(
+    alloc: Global,
+    window: &Window,
+    named: &[u32],
+    kept: &mut Kept,
+) -> Result<(), AllocError>
+    ensures { OnOk result (kept.new ≡ filter (in_each window.now named.now) kept.old) }
 {
     for number in named {
-        keep_members(window, *number, kept);
+        keep_members(alloc, window, *number, kept)?;
     }
-}
-
-/// Leaves out a package and some others.
-fn leave_out(kept: &mut Vec<u32>, own: u32, others: &[u32])
-    requires { AreRising others.now }
-    ensures { kept.new.items ≡ filter (λ q. not (q == own) && not (is_among others.now q)) kept.old.items }
-{
-    kept.retain(|number| *number != own && !has(others, *number));
+    Ok(())
 }
 
 /// Of the packages that are in all of the claim's installations those that are neither its own nor named by it as
@@ -93,11 +127,11 @@ fn left_over(
         (candidates window.now group.now.common claim.now.named.now)) }
     ensures rising { IfOk result (λ found. AreRising found.items) }
 {
-    let mut found = candidates(window, group, claim.named).to_vec(alloc)?;
-    leave_out(&mut found, claim.package, claim.on);
-    let named = each_once(alloc, claim.named)?;
-    keep_in_each(window, &named, &mut found);
-    Ok(found)
+    let mut found = candidates(alloc, window, group, claim.named)?;
+    found.leave_out(claim.package, claim.on);
+    let named = small_first(alloc, window, claim.named)?;
+    keep_in_each(alloc, window, &named, &mut found)?;
+    Ok(found.listed(alloc)?)
 }
 
 /// Whether the rules of a claim's lists hold.

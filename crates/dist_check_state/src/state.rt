@@ -95,13 +95,14 @@ impl State {
         } }
     {
         let _within = log.len();
+        let variables = log.variables();
         State {
             limit,
             packages,
             layout,
             log,
             future,
-            window: Window::new(alloc),
+            window: Window::new(alloc, variables),
             question: None,
             next: 1,
             group: Group::new(alloc),
@@ -374,7 +375,7 @@ impl State {
         let variable = self.next_variable();
         self.group
             .add_installation(alloc, &self.layout, variable, variables.as_slice())?;
-        self.window.add(variables)
+        self.window.add(alloc, &self.layout, variables)
     }
 
     /// Ends the group with a claim on the next package.

@@ -25,7 +25,7 @@ fn install(
         return Ok(());
     }
     group.add_installation(alloc, layout, variable, members)?;
-    window.add(Items::from_vec(members.to_vec(alloc)?))
+    window.add(alloc, layout, Items::from_vec(members.to_vec(alloc)?))
 }
 
 /// Of two installations of the first of three packages the second one has no third package. The second package is refuted,
@@ -68,7 +68,7 @@ fn judged(
     on: &[u32],
     undecided: &[u32],
 ) -> Result<Option<CertCause>, AllocError> {
-    let mut window = Window::new(alloc);
+    let mut window = Window::new(alloc, 5);
     let mut group = Group::new(alloc);
     let claim = StrongClaim {
         package: 1,
@@ -170,7 +170,7 @@ fn challenged(
     by: &[(u32, u32)],
 ) -> Result<Option<CertCause>, AllocError> {
     let layout = two_clusters(alloc)?;
-    let mut window = Window::new(alloc);
+    let mut window = Window::new(alloc, 5);
     let mut group = Group::new(alloc);
     let claim = ChallengeClaim {
         variable: 2,

@@ -9,22 +9,28 @@ use Rattle.dist_check_group.proofs.MarkLemmas.{named-more, or-none}
 use Rattle.dist_check_group.proofs.held.mark_named.Goals as goal
 
 pub loop-number-init : goal.loop-number-init
-loop-number-init c = λ v may. or-none (is_marked c.args.held.now v)
+loop-number-init c = record {
+  told = λ v some. or-none (is_marked c.args.held.now v);
+  still = λ v some. some;
+}
 
 pub loop-number-preserved : goal.loop-number-preserved
-loop-number-preserved c = λ v may.
+loop-number-preserved c =
     let named : List ℕ = c.args.named.now in
     let i = c.loop-number.number-index in
     let layout = c.args.layout.now in
-    let holds : ℕ → Bool = λ number. is_among (non_packages layout (members_at c.args.window.now number)) v in
-    c.in_ok-mark_held.ensures v may
-    ∙ ap (λ (xs : List ℕ). is_marked c.loop-number.held v || is_among (non_packages layout xs) v) c.members.ensures.value
-    ∙ ap (λ (b : Bool). b || holds (get_or named i 0)) (c.loop-number.invariant v may)
-    ∙ named-more holds named i (is_marked c.args.held.now v) c.loop-number-test.true
+    record {
+      told = λ v some.
+          let holds : ℕ → Bool = λ number. is_among (non_packages layout (members_at c.args.window.now number)) v in
+          c.in_ok-mark_number.ensures.told v (c.loop-number.invariant.still v some)
+          ∙ ap (λ (b : Bool). b || holds (get_or named i 0)) (c.loop-number.invariant.told v some)
+          ∙ named-more holds named i (is_marked c.args.held.now v) c.loop-number-test.true;
+      still = λ v some. c.in_ok-mark_number.ensures.still v (c.loop-number.invariant.still v some);
+    }
 
 pub returns : goal.returns
-returns c = λ v may.
-    c.loop-number.invariant v may
+returns c = λ v some.
+    c.loop-number.invariant.told v some
     ∙ ap (λ (ns : List ℕ). is_marked c.args.held.now v
     || list_any (λ number. is_among (non_packages c.args.layout.now (members_at c.args.window.now number)) v) ns)
     (take_all c.loop-number.number-index c.args.named.now c.loop-number-test.false)

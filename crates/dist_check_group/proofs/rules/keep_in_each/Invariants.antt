@@ -3,4 +3,4 @@ use Rattle.dist_check_group.specs.Group.{in_each}
 use Rattle.dist_check_group.proofs.rules.keep_in_each.Given as goal
 
 abbrev pub invariant-loop-number : goal.invariant-loop-number
-invariant-loop-number l = l.kept.items ≡ filter (in_each l.window (take l.number-index l.named)) l.initial.kept.items
+invariant-loop-number l = l.kept ≡ filter (in_each l.window (take l.number-index l.named)) l.initial.kept

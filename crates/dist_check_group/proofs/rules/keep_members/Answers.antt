@@ -6,5 +6,4 @@ use Rattle.dist_check_group.proofs.rules.keep_members.Goals as goal
 
 pub returns-in-None : goal.returns-in-None
 returns-in-None c =
-    c.clear.ensures.items
-    ∙ sym (none-kept (kept_at c.args.window.now c.args.number) c.args.kept.now.items (sym c.get.ensures.value ∙ ap option_copied c.in-None.is))
+    c.none.ensures ∙ sym (none-kept (kept_at c.args.window.now c.args.number) c.args.kept.now (sym c.get.ensures ∙ ap option_copied c.in-None.is))

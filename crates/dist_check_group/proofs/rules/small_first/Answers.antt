@@ -1,5 +1,5 @@
 use Rattle.std.proofs.lemmas.List.Sorted.{Contains-permutation, IsPermutation-sym}
-use Rattle.dist_check_group.proofs.found.small_first.Goals as goal
+use Rattle.dist_check_group.proofs.rules.small_first.Goals as goal
 
 pub returns : goal.returns
 returns c =
