@@ -1,7 +1,8 @@
 #!/usr/bin/env python3
 """Lists the definitions that a reader must believe: those that the clauses of public functions reach, through the definitions
 of specs/ that they name. Words of the kit's own library, and the types of src/ themselves, are not listed.
-Usage: definitions.py [--twice | --page | --check] [FILE FUNCTION]..    crates/dist_app/src/top_call.rt run where none is named
+Usage: definitions.py [--twice | --page | --check] [FILE NAME]..    crates/dist_app/src/top_call.rt run where none is named
+  FILE NAME  a source and a function of it, or a file of specs/ and a definition of it
   --twice  only the names that are defined more than once among them
   --page   docs/DEFINITIONS.md, made from the comments above the definitions
   --check  ends with a fault where docs/DEFINITIONS.md is not that page, or a definition has no words above it"""
@@ -11,6 +12,7 @@ import sys
 import textwrap
 
 TOP = os.path.normpath(os.path.join(os.path.dirname(os.path.abspath(__file__)), ".."))
+TOP_CALL = ("crates/dist_app/src/top_call.rt", "run")
 # What begins a definition at the start of a line, or a field of a record that others read.
 BEGINS = re.compile(r"^(?:(?:abbrev|unfoldable)\s+)?(?:pub\s+)?(?:record\s+|data\s+)?([^\s:(){}]+)\s*(?=[:({])")
 WORD = re.compile(r"[^\s(){}\[\],;]+")
@@ -124,10 +126,15 @@ def clauses_of(path, function):
 
 
 def all_reached(starts):
-    """All definitions that the clauses of these functions reach."""
+    """All definitions that the clauses of these functions reach, or these definitions."""
     found, left = {}, []
-    for path, function in starts:
-        clauses, names, modules = clauses_of(path, function)
+    for path, name in starts:
+        if path.endswith(".antt"):
+            if name not in load(path).bodies:
+                sys.exit(f"{path} has no definition {name}")
+            left.append((path, name))
+            continue
+        clauses, names, modules = clauses_of(path, name)
         left += reached_by(clauses, names, modules, None)
     while left:
         at = left.pop()
@@ -263,7 +270,7 @@ def page(found):
 
 def main(words):
     option = words.pop(0) if words and words[0].startswith("--") else None
-    starts = list(zip(words[::2], words[1::2])) or [("crates/dist_app/src/top_call.rt", "run")]
+    starts = list(zip(words[::2], words[1::2])) or [TOP_CALL]
     found = all_reached(starts)
     if option == "--twice":
         by_name = {}
@@ -287,4 +294,5 @@ def main(words):
         print(f"{len(found)} definitions in {len({path for path, _ in found})} files")
 
 
-sys.exit(main(sys.argv[1:]))
+if __name__ == "__main__":
+    sys.exit(main(sys.argv[1:]))

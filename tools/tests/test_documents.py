@@ -1,8 +1,10 @@
-"""The documents: links lead somewhere, small examples come out as they stand, and whole files of evidence are accepted."""
+"""The documents: links lead somewhere, the theorem's into the sources too, small examples come out as they stand, and whole files
+of evidence are accepted."""
 import os
 import re
 import shutil
 import subprocess
+import sys
 import unittest
 from typing import Iterator
 
@@ -52,6 +54,12 @@ class Links(unittest.TestCase):
                 with self.subTest(page=name, link=link):
                     self.assertTrue(os.path.exists(f"{TOP}/{target}"))
                     self.assertTrue(not anchor or anchor in anchors(target))
+
+
+class Theorem(unittest.TestCase):
+    def test_its_links_stand_in_the_sources(self):
+        done = subprocess.run([sys.executable, f"{TOP}/bench/theorem.py"], capture_output=True, text=True, check=False)
+        self.assertEqual(done.returncode, 0, done.stdout + done.stderr)
 
 
 class Examples(Files):
