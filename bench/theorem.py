@@ -11,7 +11,8 @@ from typing import Iterator
 from definitions import TOP, TOP_CALL, all_reached, load
 
 PAGE = f"{TOP}/docs/THEOREM.md"
-SOURCE = TOP_CALL[0]
+SOURCE, CALL = TOP_CALL
+WITH_LIMITS = f"{CALL}_with"
 # What stands behind this is no part of the theorem, so it may name what no clause reaches.
 OUTSIDE = "## Not in the theorem"
 USED = re.compile(r"\[`([^`\]]+)`\](?![:(])")
@@ -88,15 +89,13 @@ def faults_of(lines: list[str], links: dict[str, tuple[str, int]]) -> Iterator[s
             yield f"line {number}: a sentence without a link"
         if re.search(r"[.!?] [A-Z]", item.partition(" ")[2]):
             yield f"line {number}: more than one sentence"
-    for function in (TOP_CALL[1], f"{TOP_CALL[1]}_with"):
-        if clauses_of(function) != clauses_of(TOP_CALL[1]):
-            yield f"{function} has other clauses than {TOP_CALL[1]}"
-    yield from (f"clause {clause} of {TOP_CALL[1]} is not linked" for clause in clauses_of(TOP_CALL[1]) if f"{TOP_CALL[1]}.{clause}" not in used)
-    reached = all_reached([TOP_CALL, (SOURCE, f"{TOP_CALL[1]}_with")])
-    inside = text.partition(OUTSIDE)[0]
-    for path, name in starts_of(inside, links):
+    if clauses_of(CALL) != clauses_of(WITH_LIMITS):
+        yield f"{CALL} and {WITH_LIMITS} have not the same clauses"
+    yield from (f"clause {clause} of {CALL} is not linked" for clause in clauses_of(CALL) if f"{CALL}.{clause}" not in used)
+    reached = all_reached([TOP_CALL, (SOURCE, WITH_LIMITS)])
+    for path, name in starts_of(text.partition(OUTSIDE)[0], links):
         if (path, name) not in reached:
-            yield f"[`{name}`] is not reached by the clauses of {TOP_CALL[1]}"
+            yield f"[`{name}`] is not reached by the clauses of {CALL}"
 
 
 def main(words: list[str]) -> int:
