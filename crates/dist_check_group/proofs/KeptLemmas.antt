@@ -1,12 +1,12 @@
 -- Places of a row that are true, and rising lists.
 use Rattle.std.proofs.Common.{◌≡◌, ℕ, zero, suc, ◌+◌, ◌-◌, ◌<◌, ◌≤◌, ◌==◌, ◌&&◌, ◌||◌, Bool, true, false, not, List, [], ◌∷◌, ◌++◌, inl, inr, filter, length}
-use Rattle.std.proofs.Common.{get_or, set, replicate, refl, sym, ap, subst, ◌∙◌, arith, if◌then◌else◌}
-use Rattle.std.proofs.lemmas.Bool.{cases_Bool, cases_eq, cases_lt, eq-eqb, eqb-true, false≢true, ne_eqb, or_cases, or_right}
-use Rattle.std.proofs.lemmas.List.{get_or-replicate, get_or-set_other, get_or-set_same, get_or_past, length-replicate, length-set}
+use Rattle.std.proofs.Common.{set, refl, sym, ap, subst, ◌∙◌, arith, if◌then◌else◌}
+use Rattle.std.proofs.lemmas.Bool.{and_parts, cases_Bool, cases_eq, cases_lt, eq-eqb, eqb-true, false≢true, ne_eqb, or_cases, or_right}
+use Rattle.std.proofs.lemmas.List.{get_or-set_other, get_or-set_same, get_or_past, length-set}
 use Rattle.std.proofs.lemmas.List.FromFn.{get_or-range_with_len, length-range_with_len}
 use Rattle.std.proofs.lemmas.List.Kept.{AllPairs-filter}
-use Rattle.std.specs.List.{list_all, list_any, range_with_len}
-use Rattle.dist_lanes.specs.Rows.{value_at}
+use Rattle.std.specs.List.{list_all, range_with_len}
+use Rattle.dist_lanes.specs.Rows.{Meets, value_at}
 use Rattle.dist_cert.specs.ListLaws.{any-from, both-flags, from-any}
 use Rattle.dist_cert.specs.Rising.{AreRising, is_among}
 use Rattle.dist_check_group.specs.KeptPrivate.{true_places}
@@ -226,3 +226,12 @@ none-of (x ∷ xs) q = at (q == x) (none-of xs q)
         → (not b && list_all (λ number. not (q == number)) xs) ≡ not (b || is_among xs q)
     at true rest = refl
     at false rest = rest
+
+-- two rows that don't meet have no place in common
+pub apart : (row others : List Bool) → ¬ Meets row others → (q : ℕ) → (is_among (true_places row) q && is_among (true_places others) q) ≡ false
+apart row others none q = elim (cases_Bool (is_among (true_places row) q && is_among (true_places others) q)) [
+  | inl both ↦
+      let parts = and_parts (is_among (true_places row) q) (is_among (true_places others) q) both in
+      absurd (none (q, sym (among-true row q) ∙ parts.0, sym (among-true others q) ∙ parts.1))
+  | inr never ↦ never
+]

@@ -6,7 +6,7 @@ use Rattle.std.proofs.lemmas.Bool.{false≢true}
 use Rattle.std.proofs.lemmas.List.Folds.{list_any_more}
 use Rattle.dist_cert.specs.Rising.{is_among}
 use Rattle.dist_check_group.specs.Layout.{LayoutView, is_package, non_packages}
-use Rattle.dist_check_group.proofs.RuleLemmas.{among-filter, any-filter}
+use Rattle.dist_check_group.proofs.RuleLemmas.{any-filter}
 
 -- ---- one more
 

@@ -1,5 +1,5 @@
 -- Serves private contracts: how the numbers of an installation are kept.
-use Rattle.std.specs.Prelude.{ℕ, ◌+◌, ◌^◌, ◌≤◌, Bool, List, filter, length}
+use Rattle.std.specs.Prelude.{ℕ, ◌^◌, ◌≤◌, Bool, List, filter, length}
 use Rattle.std.specs.List.{range_with_len}
 use Rattle.dist_lanes.specs.Rows.{value_at}
 use Rattle.dist_cert.specs.Rising.{AreRising}

@@ -113,6 +113,9 @@ fn mark_wanted(
         ≡ (is_marked held.old v || ((is_among wanted.old v && is_among members.now v) && not (is_package layout.now v)))) }
     ensures left { OnOk result ((v : ℕ) → is_among wanted.new v ≡ (is_among wanted.old v && not (is_among wanted.old v && is_among members.now v))) }
 {
+    if !wanted.may_meet(members) {
+        return Ok(());
+    }
     let mut common = wanted.copied(alloc)?;
     common.narrow(alloc, members)?;
     let found = common.listed(alloc)?;

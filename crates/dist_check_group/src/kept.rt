@@ -104,6 +104,26 @@ impl Kept {
         }
     }
 
+    /// Whether others may have one of them. Rows of as many places are compared.
+    pub(crate) fn may_meet(&self, others: &Kept) -> bool
+        ensures { result ≡ false → (q : ℕ) → (is_among self.now q && is_among others.now q) ≡ false }
+    {
+        match &self.form {
+            Form::Listed(_) => true,
+            Form::Placed(row) => others.may_have_place(row),
+        }
+    }
+
+    /// Whether one of them may be a place of a row.
+    fn may_have_place(&self, row: &Row) -> bool
+        ensures { result ≡ false → (q : ℕ) → (is_among (true_places row.now) q && is_among self.now q) ≡ false }
+    {
+        match &self.form {
+            Form::Listed(_) => true,
+            Form::Placed(others) => may_meet(row, others),
+        }
+    }
+
     /// The numbers as a list.
     pub(crate) fn listed(&self, alloc: Global) -> Result<Vec<u32>, AllocError>
         ensures value { IfOk result (λ numbers. numbers.items ≡ self.now) }
@@ -277,6 +297,13 @@ fn and_places(row: &mut Row, others: &Row) -> bool
     }
     row.and_into(others);
     true
+}
+
+/// Whether two rows may have a place in common: they are not of as many places, or have one.
+fn may_meet(row: &Row, others: &Row) -> bool
+    ensures { result ≡ false → (q : ℕ) → (is_among (true_places row.now) q && is_among (true_places others.now) q) ≡ false }
+{
+    row.len() != others.len() || row.meets(others)
 }
 
 /// Leaves out a number and some others.

@@ -61,14 +61,15 @@ fn judge_filled(
     judge_rules(alloc, window, group, 3, claim)
 }
 
-/// The same of a new window and group.
+/// The same of a new window of variables up to a last one, and a new group.
 fn judged(
     alloc: Global,
+    last: u32,
     named: &[u32],
     on: &[u32],
     undecided: &[u32],
 ) -> Result<Option<CertCause>, AllocError> {
-    let mut window = Window::new(alloc, 5);
+    let mut window = Window::new(alloc, last);
     let mut group = Group::new(alloc);
     let claim = StrongClaim {
         package: 1,
@@ -98,10 +99,10 @@ const CLAIMED: &[Claimed] = &[
 ];
 
 /// The place of the first claim of which something else is said.
-fn wrong_claim(alloc: Global, rows: &[Claimed]) -> Option<usize> {
+fn wrong_claim(alloc: Global, last: u32, rows: &[Claimed]) -> Option<usize> {
     for place in 0..rows.len() {
         let (named, on, undecided, said) = rows[place];
-        if judged(alloc, named, on, undecided) != Ok(said) {
+        if judged(alloc, last, named, on, undecided) != Ok(said) {
             return Some(place);
         }
     }
@@ -110,7 +111,9 @@ fn wrong_claim(alloc: Global, rows: &[Claimed]) -> Option<usize> {
 
 #[test]
 fn claims_are_judged(rt: HostRuntime) {
-    assert_eq!(rt; wrong_claim(rt.alloc(), CLAIMED), None);
+    // As rows and as lists.
+    assert_eq!(rt; wrong_claim(rt.alloc(), 3, CLAIMED), None);
+    assert_eq!(rt; wrong_claim(rt.alloc(), 3_000, CLAIMED), None);
 }
 
 #[test]
@@ -163,14 +166,15 @@ fn judge_refuted(
     judge_challenge(alloc, layout, window, group, claim)
 }
 
-/// The same of a new window and group.
+/// The same of a new window of variables up to a last one, and a new group.
 fn challenged(
     alloc: Global,
+    last: u32,
     named: &[u32],
     by: &[(u32, u32)],
 ) -> Result<Option<CertCause>, AllocError> {
     let layout = two_clusters(alloc)?;
-    let mut window = Window::new(alloc, 5);
+    let mut window = Window::new(alloc, last);
     let mut group = Group::new(alloc);
     let claim = ChallengeClaim {
         variable: 2,
@@ -197,10 +201,10 @@ const CHALLENGED: &[Challenged] = &[
 ];
 
 /// The place of the first claim on challenges of which something else is said.
-fn wrong_challenge(alloc: Global, rows: &[Challenged]) -> Option<usize> {
+fn wrong_challenge(alloc: Global, last: u32, rows: &[Challenged]) -> Option<usize> {
     for place in 0..rows.len() {
         let (named, by, said) = rows[place];
-        if challenged(alloc, named, by) != Ok(said) {
+        if challenged(alloc, last, named, by) != Ok(said) {
             return Some(place);
         }
     }
@@ -209,5 +213,7 @@ fn wrong_challenge(alloc: Global, rows: &[Challenged]) -> Option<usize> {
 
 #[test]
 fn claims_on_challenges_are_judged(rt: HostRuntime) {
-    assert_eq!(rt; wrong_challenge(rt.alloc(), CHALLENGED), None);
+    // As rows and as lists.
+    assert_eq!(rt; wrong_challenge(rt.alloc(), 5, CHALLENGED), None);
+    assert_eq!(rt; wrong_challenge(rt.alloc(), 5_000, CHALLENGED), None);
 }

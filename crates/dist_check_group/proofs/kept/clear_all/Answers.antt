@@ -1,4 +1,4 @@
-use Rattle.std.proofs.Common.{◌≡◌, ◌∙◌, ◌==◌, List, ℕ, ap, not, refl, sym, filter}
+use Rattle.std.proofs.Common.{◌∙◌, ◌==◌, List, ℕ, ap, not, refl, sym}
 use Rattle.std.specs.List.{list_all}
 use Rattle.std.proofs.lemmas.List.{take_all}
 use Rattle.dist_cert.specs.Rising.{is_among}

@@ -1,4 +1,4 @@
-use Rattle.std.proofs.Common.{◌≡◌, ◌<◌, filter, rules, subst, sym}
+use Rattle.std.proofs.Common.{◌<◌, rules, subst, sym}
 use Rattle.std.proofs.lemmas.Fn.{filter_same}
 use Rattle.std.proofs.lemmas.List.Kept.{AllPairs-filter}
 use Rattle.dist_cert.specs.Rising.{AreRising, is_among}

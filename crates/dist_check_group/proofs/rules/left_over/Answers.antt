@@ -1,4 +1,4 @@
-use Rattle.std.proofs.Common.{◌≡◌, ◌∙◌, ◌&&◌, Bool, List, ℕ, ap, filter}
+use Rattle.std.proofs.Common.{◌∙◌, ◌&&◌, Bool, List, ℕ, ap, filter}
 use Rattle.dist_check_group.specs.Group.{in_each}
 use Rattle.dist_check_group.proofs.RuleLemmas.{filter-twice, is_left, named-once}
 use Rattle.dist_check_group.proofs.rules.left_over.Goals as goal

@@ -1,4 +1,4 @@
-use Rattle.std.proofs.Common.{◌∙◌, ◌&&◌, Bool, List, ℕ, get_or, map, refl}
+use Rattle.std.proofs.Common.{◌∙◌, Bool, List, ℕ, get_or, map, refl}
 use Rattle.dist_cert.specs.Rising.{is_among}
 use Rattle.dist_check_group.specs.Challenge.{use_each}
 use Rattle.dist_check_group.specs.Layout.{used}

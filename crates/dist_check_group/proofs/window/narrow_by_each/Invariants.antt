@@ -1,7 +1,6 @@
 use Rattle.std.proofs.Common.{◌≡◌, ◌&&◌, ℕ, map}
 use Rattle.dist_cert.specs.Rising.{is_among}
 use Rattle.dist_check_group.specs.Challenge.{use_each}
-use Rattle.dist_check_group.specs.Window.{WindowView}
 use Rattle.dist_check_group.specs.WindowPrivate.{members_of}
 use Rattle.dist_check_group.proofs.window.narrow_by_each.Given as goal
 
