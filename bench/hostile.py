@@ -437,7 +437,8 @@ ROWS = {
     "so many packages that need one in conflict with as many": (10_000, lambda n: strong(hub(n, "Conflicts: v\n", loose(n, "Provides: v\n")))),
     "so many packages that need one with one item of as many alternatives": (10_000, lambda n: strong(hub(n, one_of(n), loose(n)))),
     "so many packages that need one with as many equal items": (10_000, lambda n: strong(hub(n, "Depends: " + ", ".join(["x"] * n) + "\n", stanza("x")))),
-    "so many packages that need, through others, one in conflict with as many": (10_000, lambda n: strong(far_hub(n, "Conflicts: v\n", loose(n, "Provides: v\n")))),
+    "so many packages that need, through others, one in conflict with as many": (10_000, lambda n: strong(
+        far_hub(n, "Conflicts: v\n", loose(n, "Provides: v\n")))),
     "so many packages that need, through others, one with one item of as many alternatives": (10_000, lambda n: strong(far_hub(n, one_of(n), loose(n)))),
     "so many packages that need, through others, one with as many equal items": (10_000, lambda n: strong(
         far_hub(n, "Depends: " + ", ".join(["x"] * n) + "\n", stanza("x")))),
