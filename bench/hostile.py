@@ -416,7 +416,7 @@ ROWS = {
     "more clauses than may be": (40_000, lambda n: clauses("".join(stanza(f"p{k}", more="Provides: x\nConflicts: x\n") for k in range(n)))),
     "one false hint told again and again": (100_000, lambda n: checked(*hints(n))),
     "so many packages, half of them in a thousand installations that each claim on one names": (8_000, lambda n: checked(*named_by_each("strong", n))),
-    "so many in a thousand installations that each claim on challenges names": (8_000, lambda n: checked(*named_by_each("challenged", n))),
+    "so many in a thousand installations that each claim on challenges names": (2_000, lambda n: checked(*named_by_each("challenged", n))),
     "one line of so many numbers": (6_000_000, lambda n: checked(*wide_line(n))),
     "a package in so many conflicts, installed again and again": (20_000, lambda n: checked(*installed_again(n))),
     "one item told again and again, installed as often": (20_000, lambda n: checked(*equal_items(n))),
