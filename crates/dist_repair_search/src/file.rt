@@ -118,8 +118,9 @@ fn run_search<D: Desk>(
     requires fits { AreOver set.variables search.old.words }
     ensures { RunsSearch search.old.repairing.space.now search.old.words search.old.notes search.new.notes numbers.now (new_asker set limit limits.now) name.now (D.view desk.old) (D.view desk.new) result }
 {
-    let packages = search.repairing.space.package_count();
-    let mut inquirer = Inquirer::shunning(alloc, set, limit, limits, packages)?;
+    // The archive as it is comes first, and the packages as they are behind it.
+    let front = search.repairing.space.package_count().saturating_add(1);
+    let mut inquirer = Inquirer::shunning(alloc, set, limit, limits, front)?;
     let done = write_search(alloc, search, &mut inquirer, numbers, desk, name);
     drop(inquirer);
     done
