@@ -112,11 +112,11 @@ fn write_clusters(
 }
 
 /// Adds a new name.
-fn write_name<'a>(
+fn write_name(
     alloc: Global,
     out: &mut Vec<u8>,
-    finder: &CutFinder<'a>,
-    name: &'a Name,
+    finder: &CutFinder<'_>,
+    name: &Name,
 ) -> Result<(), AllocError>
     ensures { OnOk result (TellsName finder.now name.now out.old.items out.new.items) }
 {
@@ -127,11 +127,11 @@ fn write_name<'a>(
 }
 
 /// Adds all new names.
-fn write_names<'a>(
+fn write_names(
     alloc: Global,
     out: &mut Vec<u8>,
-    finder: &CutFinder<'a>,
-    names: &'a Names,
+    finder: &CutFinder<'_>,
+    names: &Names,
 ) -> Result<(), AllocError>
     requires { AreNewNames finder.now names.now }
     ensures { OnOk result (TellsNames finder.now out.old.items out.new.items) }
