@@ -305,12 +305,6 @@ def spelled(k):
     return ".".join("01" if k >> place & 1 else "1" for place in range(20))
 
 
-def below_a_long_bound(n):
-    """So many packages of some 60 bytes that provide a name at their own version, and one in conflict with a later version of it, as long as all of them."""
-    packages = "".join(stanza(f"p{k:06}", more="Provides: x (= 1)\n") for k in range(n // 60))
-    return packages + stanza("q", more="Conflicts: x (<< 2." + "1" * n + ")\n")
-
-
 def moving_providers(bounds):
     """As many packages as bounds, each of which provides one name at its own version, above all of them."""
     n = len(bounds)
@@ -454,8 +448,6 @@ ROWS = {
     "the classes of one entry told again and again": (8_000, lambda n: classes(
         stanza("libx", more="Provides: " + ", ".join(["a (= 1)"] * n) + "\n")
         + stanza("p", more="Conflicts: " + ", ".join(f"a (>= {k})" for k in range(n)) + "\n"))),
-    "the outdated ones of packages below one bound with a version as long as all of them": (2_000_000, lambda n: (
-        ["outdated", "packages", "cert"], below_a_long_bound(n), "")),
     "the classes of so many packages of one name they provide, with as many bounds below": (80_000, lambda n: classes(moving_providers(
         [f">= {k + 1}" for k in range(n // 2)]))),
     "the classes of so many packages of one name they provide, with as many spellings of one bound above": (80_000, lambda n: classes(moving_providers(
