@@ -208,7 +208,8 @@ module _ (table : Entries) (sorted : IsSorted bound_cmp table) where
 
   -- ---- what is found from there on
 
-  pub found-none : (name : List ℕ) (start : ℕ) (old : List (List ℕ)) (Has : List ℕ → Type 0) → IsStart table name start Has → AreFound table name start start old old
+  pub found-none : (name : List ℕ) (start : ℕ) (old : List (List ℕ)) (Has : List ℕ → Type 0) → IsStart table name start Has
+      → AreFound table name start start old old
   found-none name start old Has at = record {
     from = omega arith;
     behind = at.behind;

@@ -1,5 +1,6 @@
 -- Which versions stand in bounds on which name, while the atoms are gone through. No public clause cites it.
-use Rattle.std.specs.Prelude.{◌≡◌, ◌≢◌, ◌⊎◌, ◌↔◌, ◌≤◌, ℕ, List, Option, Some, false, Any, Contains, IsSomeAnd, slice_get}
+use Rattle.std.specs.Prelude.{◌≡◌, ◌≢◌, ◌⊎◌, ◌↔◌, ◌≤◌, ℕ, List, Option, Some, false, Any, Contains, IsSomeAnd}
+use Rattle.std.specs.Prelude.{slice_get}
 use Rattle.std.specs.Cmp.Lexicographic.{slice_cmp}
 use Rattle.std.specs.List.Sorted.{IsSorted}
 use Rattle.std.specs.Ordering.{is_lt, nat_cmp, ordering_then}
@@ -47,7 +48,8 @@ IsPackageBound architecture name version p =
 abbrev pub HasBounds : PackageList → Entries → Type 0
 HasBounds r table = (q v : List ℕ) → Contains table (q, v) ↔ IsBoundOn r (λ name. name ≡ q) v
 
--- bounds by name, version and text: beside each name are the versions that the atoms of the repository have in their bounds on it
+-- bounds by name, version and text: beside each name are the versions that the atoms of the repository have in their
+-- bounds on it
 pub record IsTableOf (r : PackageList) (table : Entries) : Type 0 where
   pub sorted : IsSorted bound_cmp table
   pub exact : HasBounds r table

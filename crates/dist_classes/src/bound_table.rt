@@ -9,7 +9,7 @@ ghost use Rattle.dist_classes.specs.Table.{AddsLeast, HasBounds, IsAtomBound, Is
 
 use crate::keys::TextKey;
 use dist_relation::{Alternatives, Atom, Atoms, Items, Name};
-use dist_repo::{Package, Repository};
+use dist_repo::{NameKey, Package, Repository};
 use dist_version::Version;
 use std::alloc::{AllocError, Global};
 use std::cmp::Ordering;
@@ -18,7 +18,7 @@ use std::marker::Model;
 /// A name, and a version in a bound on it.
 #[derive(Drop)]
 struct NameBound<'a> {
-    name: &'a Name,
+    name: NameKey<'a>,
     version: TextKey<'a>,
 }
 
@@ -27,14 +27,14 @@ impl<'a> Model for NameBound<'a> {
 
     ghost Value = { Entry };
 
-    ghost view = { λ bound. (bound.name.now, bound.version) };
+    ghost view = { λ bound. (bound.name, bound.version) };
 }
 
 /// The order of two bounds: by name, by version, and by text where versions are equal.
 fn compare_bounds<'a>(first: &NameBound<'a>, second: &NameBound<'a>) -> Ordering
     ensures { result ≡ bound_cmp first.now second.now }
 {
-    let order = first.name.bytes().cmp(second.name.bytes());
+    let order = first.name.cmp(&second.name);
     if order.is_ne() {
         return order;
     }
@@ -42,17 +42,17 @@ fn compare_bounds<'a>(first: &NameBound<'a>, second: &NameBound<'a>) -> Ordering
 }
 
 /// Whether a bound is on a lesser name.
-fn is_before(bound: &NameBound, name: &Name) -> bool
+fn is_before(bound: &NameBound, name: &NameKey) -> bool
     ensures { result ≡ is_lt (slice_cmp nat_cmp bound.now.0 name.now) }
 {
-    bound.name.bytes().cmp(name.bytes()).is_lt()
+    bound.name.cmp(name).is_lt()
 }
 
 /// Whether a bound is on a lesser name, or on the name and its version is not above another one.
-fn is_up_to(bound: &NameBound, name: &Name, version: &Version) -> bool
+fn is_up_to(bound: &NameBound, name: &NameKey, version: &Version) -> bool
     ensures { result ≡ is_le (key_cmp bound.now (name.now, version.now)) }
 {
-    let order = bound.name.bytes().cmp(name.bytes());
+    let order = bound.name.cmp(name);
     if order.is_ne() {
         return order.is_le();
     }
@@ -60,7 +60,7 @@ fn is_up_to(bound: &NameBound, name: &Name, version: &Version) -> bool
 }
 
 /// Where the bounds on a name begin.
-fn first_of(bounds: &[NameBound], name: &Name) -> usize
+fn first_of(bounds: &[NameBound], name: &NameKey) -> usize
     requires { IsSorted bound_cmp bounds.now }
     ensures { IsStart bounds.now name.now result (λ v. Contains bounds.now (name.now, v)) }
 {
@@ -68,7 +68,7 @@ fn first_of(bounds: &[NameBound], name: &Name) -> usize
 }
 
 /// Where those bounds on a name begin whose versions are above another one.
-fn first_above(bounds: &[NameBound], name: &Name, version: &Version) -> usize
+fn first_above(bounds: &[NameBound], name: &NameKey, version: &Version) -> usize
     requires { IsSorted bound_cmp bounds.now }
     ensures { IsStart bounds.now name.now result (λ v. IsBelow version.now v × Contains bounds.now (name.now, v)) }
 {
@@ -76,12 +76,12 @@ fn first_above(bounds: &[NameBound], name: &Name, version: &Version) -> usize
 }
 
 /// The version at a place, if it stands in a bound on the name.
-fn version_at<'a>(bounds: &[NameBound<'a>], name: &Name, place: usize) -> Option<&'a Version>
+fn version_at<'a>(bounds: &[NameBound<'a>], name: &NameKey, place: usize) -> Option<&'a Version>
     ensures some { IfSome result (λ version. slice_get bounds.now place ≡ Some (name.now, version.now)) }
     ensures none { result ≡ None → (v : List ℕ) → slice_get bounds.now place ≢ Some (name.now, v) }
 {
     let bound = bounds.get(place)?;
-    if bound.name != name {
+    if bound.name.cmp(name).is_ne() {
         return None;
     }
     Some(bound.version.version())
@@ -91,7 +91,7 @@ fn version_at<'a>(bounds: &[NameBound<'a>], name: &Name, place: usize) -> Option
 /// over by halving.
 fn collect_from<'a>(
     bounds: &[NameBound<'a>],
-    name: &Name,
+    name: &NameKey,
     place: usize,
     found: &mut Vec<TextKey<'a>>,
 ) -> Result<(), AllocError>
@@ -133,7 +133,7 @@ impl<'a> Table<'a> {
     /// Adds the versions in bounds on a name, each once.
     pub(crate) fn collect(
         &self,
-        name: &Name,
+        name: &NameKey,
         found: &mut Vec<TextKey<'a>>,
     ) -> Result<(), AllocError>
         requires { IsSorted bound_cmp self.now }
@@ -146,7 +146,7 @@ impl<'a> Table<'a> {
     /// Adds the versions in bounds on a name that are above another one, each once.
     pub(crate) fn collect_above(
         &self,
-        name: &Name,
+        name: &NameKey,
         version: &Version,
         found: &mut Vec<TextKey<'a>>,
     ) -> Result<(), AllocError>
@@ -171,6 +171,7 @@ impl<'a> Table<'a> {
         ensures { OnOk result (Notes self.old self.new (λ q v. (name.now ≡ q) × (version.now ≡ v))) }
     {
         let version = TextKey::new(version);
+        let name = NameKey::new(name);
         self.bounds.push(NameBound { name, version })?;
         Ok(())
     }

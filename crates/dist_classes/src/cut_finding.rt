@@ -10,10 +10,10 @@ ghost use Rattle.dist_classes.specs.Table.{Adds, AddsLeast};
 
 use crate::bound_table::{Table, table_of};
 use crate::class_list::{Classes, classes_above, classes_of_all};
-use crate::keys::{NameKey, TextKey};
+use crate::keys::TextKey;
 use dist_cluster::Clusters;
 use dist_relation::{Name, Provide};
-use dist_repo::{Package, Repository};
+use dist_repo::{NameKey, Package, Repository};
 use dist_version::Version;
 use std::alloc::{AllocError, Global};
 use std::collections::BTreeSet;
@@ -66,7 +66,7 @@ impl<'a> CutFinder<'a> {
     }
 
     /// Adds the versions in bounds on a name, each once.
-    fn collect(&self, name: &Name, found: &mut Vec<TextKey<'a>>) -> Result<(), AllocError>
+    fn collect(&self, name: &NameKey, found: &mut Vec<TextKey<'a>>) -> Result<(), AllocError>
         ensures { OnOk result (AddsLeast found.old.items found.new.items (IsBoundOn self.now (λ other. other ≡ name.now))) }
     {
         self.table.collect(name, found)
@@ -75,7 +75,7 @@ impl<'a> CutFinder<'a> {
     /// Adds the versions in bounds on a name that are above another one, each once.
     fn collect_above(
         &self,
-        name: &Name,
+        name: &NameKey,
         top: &Version,
         found: &mut Vec<TextKey<'a>>,
     ) -> Result<(), AllocError>
@@ -92,13 +92,11 @@ impl<'a> CutFinder<'a> {
     ) -> Result<(), AllocError>
         ensures { OnOk result (Adds names.old.keys names.new.keys (IsMovedName self.now.architecture «package».now)) }
     {
-        names.insert(NameKey {
-            name: &package.name,
-        })?;
+        names.insert(NameKey::new(&package.name))?;
         for place in 0..package.provides.len() {
             let entry = package.provides.get(place);
             if is_moving(self.repo, package, entry) {
-                names.insert(NameKey { name: &entry.name })?;
+                names.insert(NameKey::new(&entry.name))?;
             }
         }
         Ok(())
@@ -146,7 +144,7 @@ impl<'a> CutFinder<'a> {
     {
         let keys = names.iter();
         for key in keys {
-            self.collect_above(key.name(), top, found)?;
+            self.collect_above(key, top, found)?;
         }
         Ok(())
     }
@@ -216,7 +214,7 @@ impl<'a> CutFinder<'a> {
         requires { found.old.items ≡ [] }
         ensures { IfOk result (AreClassesOfName self.now name.now) }
     {
-        self.collect(name, found)?;
+        self.collect(&NameKey::new(name), found)?;
         found.sort()?;
         classes_of_all(self.alloc, found)
     }

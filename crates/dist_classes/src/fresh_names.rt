@@ -8,9 +8,8 @@ ghost use Rattle.dist_repo.specs.Providers.{IsProvider};
 ghost use Rattle.dist_classes.specs.NewNames.{AreNewNames, IsFreshAtom};
 ghost use Rattle.dist_classes.specs.Table.{Adds};
 
-use crate::keys::NameKey;
 use dist_relation::{Alternatives, Atom, Items, Name};
-use dist_repo::Repository;
+use dist_repo::{NameKey, Repository};
 use std::alloc::{AllocError, Global};
 use std::collections::BTreeSet;
 use std::marker::Model;
@@ -62,7 +61,7 @@ fn note_atom<'a>(
     ensures { OnOk result (Adds names.old.keys names.new.keys (λ q. IsFreshAtom repo.now q atom.now)) }
 {
     if is_fresh(repo, atom) {
-        names.insert(NameKey { name: &atom.name })?;
+        names.insert(NameKey::new(&atom.name))?;
     }
     Ok(())
 }

@@ -1,7 +1,6 @@
-//! Versions and names as keys.
+//! Versions as keys.
 ghost use Rattle.std.specs.Prelude.{◌≡◌};
 
-use dist_relation::Name;
 use dist_version::Version;
 use std::cmp::Ordering;
 use std::marker::Model;
@@ -88,84 +87,4 @@ impl Eq for TextKey<'_> {
     ghost use Rattle.dist_classes.specs.SortedPrivate.{text_cmp, text_total};
 
     ghost laws = { eq_by_cmp_equiv text_total };
-}
-
-/// A name as a key, which stands in the order of its bytes.
-#[derive(Drop)]
-pub struct NameKey<'a> {
-    /// The name.
-    pub name: &'a Name,
-}
-
-impl<'a> Model for NameKey<'a> {
-    ghost use Rattle.std.specs.Prelude.{ℕ, List};
-
-    ghost Value = { List ℕ };
-
-    ghost view = { λ key. key.name.now };
-}
-
-impl<'a> NameKey<'a> {
-    /// The name, which lives longer than the key.
-    pub(crate) fn name(&self) -> &'a Name
-        ensures { result.now ≡ self.now }
-    {
-        self.name
-    }
-}
-
-impl Ord for NameKey<'_> {
-    ghost use Rattle.std.specs.Cmp.Lexicographic.{slice_cmp};
-    ghost use Rattle.std.specs.Ordering.{nat_cmp};
-    ghost use Rattle.std.proofs.lemmas.Cmp.{nat_list_cmp_total};
-    ghost use Rattle.std.proofs.Common.{refl};
-
-    ghost cmp = { slice_cmp nat_cmp };
-
-    ghost total = { nat_list_cmp_total };
-
-    ghost matches_partial_cmp = { λ _ _. refl };
-
-    ghost matches_eq = { λ _ _. refl };
-
-    fn cmp(&self, other: &Self) -> Ordering {
-        self.name.bytes().cmp(other.name.bytes())
-    }
-}
-
-impl PartialOrd for NameKey<'_> {
-    ghost use Rattle.std.specs.Cmp.{partial_order_from_total};
-    ghost use Rattle.std.specs.Ordering.{as_partial_cmp, nat_cmp};
-    ghost use Rattle.std.specs.Cmp.Lexicographic.{slice_cmp};
-    ghost use Rattle.std.proofs.lemmas.Cmp.{nat_list_cmp_total};
-
-    ghost partial_cmp = { as_partial_cmp (slice_cmp nat_cmp) };
-
-    ghost laws = { partial_order_from_total nat_list_cmp_total };
-
-    fn partial_cmp(&self, other: &Self) -> Option<Ordering> {
-        Some(self.cmp(other))
-    }
-}
-
-impl PartialEq for NameKey<'_> {
-    ghost use Rattle.std.specs.Cmp.{eq_by_cmp_equiv, partial_equiv_from_equiv};
-    ghost use Rattle.std.specs.Ordering.{eq_by_cmp, nat_cmp};
-    ghost use Rattle.std.specs.Cmp.Lexicographic.{slice_cmp};
-    ghost use Rattle.std.proofs.lemmas.Cmp.{nat_list_cmp_total};
-
-    ghost eq = { eq_by_cmp (slice_cmp nat_cmp) };
-
-    ghost laws = { partial_equiv_from_equiv (eq_by_cmp_equiv nat_list_cmp_total) };
-
-    fn eq(&self, other: &Self) -> bool {
-        self.cmp(other).is_eq()
-    }
-}
-
-impl Eq for NameKey<'_> {
-    ghost use Rattle.std.specs.Cmp.{eq_by_cmp_equiv};
-    ghost use Rattle.std.proofs.lemmas.Cmp.{nat_list_cmp_total};
-
-    ghost laws = { eq_by_cmp_equiv nat_list_cmp_total };
 }

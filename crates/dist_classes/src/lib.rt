@@ -21,7 +21,6 @@ pub use class_value::{Class, print_class};
 pub use clusters::repository_clusters;
 pub use cut_finding::{CutFinder, classes_of, classes_of_new_name};
 pub use fresh_names::{Names, new_names};
-pub use keys::NameKey;
 pub use laws::{
     classes_are_there, cuts_are_one, new_names_are_one, new_names_match_alike,
     new_versions_match_alike, no_class_is_empty, versions_are_in_one_class,

@@ -8,6 +8,7 @@
 mod asked_lists;
 mod builder;
 mod edges;
+mod guesses;
 mod key;
 mod laws;
 mod matching;

@@ -5,6 +5,7 @@ ghost use Rattle.dist_repo.specs.Order.{IsInOrder};
 ghost use Rattle.dist_repo.specs.OwnPrivate.{AreCounted, AreNumbersNamed, AreOwn};
 ghost use Rattle.dist_repo.specs.declared.offers.Offer.{Offer};
 
+use crate::guesses::Guesses;
 use crate::key::Key;
 use crate::offers::Offer;
 use crate::spans::span_of;
@@ -15,6 +16,8 @@ use std::alloc::{AllocError, Global};
 pub(crate) struct Own {
     pub(crate) numbers: Vec<u32>,
     pub(crate) offers: Vec<Offer>,
+    /// Where the packages of each name may begin.
+    pub(crate) guesses: Guesses,
 }
 
 impl Own {
@@ -40,15 +43,26 @@ impl Own {
     }
 }
 
+/// Where the packages of each name may begin.
+fn guesses_of(alloc: Global, packages: &[Key]) -> Result<Guesses, AllocError> {
+    let mut guesses = Guesses::for_names(alloc, packages.len())?;
+    for (place, key) in packages.iter().enumerate() {
+        guesses.note(key.name(), place);
+    }
+    Ok(guesses)
+}
+
 /// What the packages offer of their own names. A place past 4,294,967,295 is want of memory too.
 pub(crate) fn own_of(alloc: Global, packages: &[Key]) -> Result<Own, AllocError>
     requires { length packages.now < 2 ^ 32 }
     ensures numbers { IfOk result (λ own. AreCounted (length packages.now) own.numbers.items) }
     ensures offers { IfOk result (λ own. AreOwn packages.now (length packages.now) own.offers.items) }
 {
+    let guesses = guesses_of(alloc, packages)?;
     let mut own = Own {
         numbers: Vec::new(alloc),
         offers: Vec::new(alloc),
+        guesses,
     };
     match own.fill(packages) {
         Ok(()) => Ok(own),
@@ -59,23 +73,33 @@ pub(crate) fn own_of(alloc: Global, packages: &[Key]) -> Result<Own, AllocError>
     }
 }
 
-/// The numbers of the packages of a name.
-pub(crate) fn numbers_named<'a>(packages: &[Key], numbers: &'a [u32], name: &[u8]) -> &'a [u32]
+/// The numbers of the packages of a name, with a guess at where those begin.
+pub(crate) fn numbers_named<'a>(
+    packages: &[Key],
+    numbers: &'a [u32],
+    name: &[u8],
+    guess: usize,
+) -> &'a [u32]
     requires in_order { IsInOrder packages.now }
     requires numbers { AreCounted (length packages.now) numbers.now }
     ensures { AreNumbersNamed packages.now name.now result.now }
 {
-    let (start, end) = span_of(packages, name);
+    let (start, end) = span_of(packages, name, guess);
     &numbers[start..end]
 }
 
-/// What the packages of a name offer of it by their own names.
-pub(crate) fn offers_named<'a>(packages: &[Key], offers: &'a [Offer], name: &[u8]) -> &'a [Offer]
+/// What the packages of a name offer of it by their own names, with a guess at where those begin.
+pub(crate) fn offers_named<'a>(
+    packages: &[Key],
+    offers: &'a [Offer],
+    name: &[u8],
+    guess: usize,
+) -> &'a [Offer]
     requires in_order { IsInOrder packages.now }
     requires offers { AreOwn packages.now (length packages.now) offers.now }
     ensures exact { (offer : Offer) → Contains result.now offer ↔ IsOwnOffer packages.now name.now offer }
     ensures in_order { AreInVersionOrder packages.now result.now }
 {
-    let (start, end) = span_of(packages, name);
+    let (start, end) = span_of(packages, name, guess);
     &offers[start..end]
 }

@@ -128,9 +128,13 @@ impl Repository {
     pub fn providers(&self, name: &[u8]) -> &[u32]
         ensures { AreProviders self.now name.now result.now }
     {
-        match place_of(&self.index.names, name) {
+        let guess = self.index.guesses.guess(name);
+        match place_of(&self.index.names, name, guess) {
             Some(place) => self.index.numbers.get(place),
-            None => numbers_named(&self.packages, &self.own.numbers, name),
+            None => {
+                let guess = self.own.guesses.guess(name);
+                numbers_named(&self.packages, &self.own.numbers, name, guess)
+            }
         }
     }
 
@@ -167,9 +171,13 @@ impl Repository {
     fn offers(&self, name: &[u8]) -> &[Offer]
         ensures { AreOffers self.now name.now result.now }
     {
-        match place_of(&self.index.names, name) {
+        let guess = self.index.guesses.guess(name);
+        match place_of(&self.index.names, name, guess) {
             Some(place) => self.index.offers.get(place),
-            None => offers_named(&self.packages, &self.own.offers, name),
+            None => {
+                let guess = self.own.guesses.guess(name);
+                offers_named(&self.packages, &self.own.offers, name, guess)
+            }
         }
     }
 

@@ -4,6 +4,7 @@ ghost use Rattle.dist_repo.specs.Order.{IsInOrder};
 ghost use Rattle.dist_repo.specs.Prefix.{IsPrefixOf};
 ghost use Rattle.dist_repo.specs.SpansPrivate.{comes_before, IsEdge, IsEdgeWithin, IsSpan};
 
+use crate::guesses::next_look;
 use crate::key::Key;
 use crate::prefix::prefix_of;
 use std::cmp::Ordering;
@@ -21,6 +22,7 @@ fn edge_within(
     name: &[u8],
     prefix: u128,
     past: bool,
+    guess: usize,
     start: usize,
     end: usize,
 ) -> usize
@@ -32,7 +34,7 @@ fn edge_within(
     let mut low = start;
     let mut high = end;
     while low < high {
-        let middle = low + (high - low) / 2;
+        let middle = next_look(guess, low, high);
         if comes_before(past, packages[middle].compare_name(prefix, name)) {
             low = middle + 1;
         } else {
@@ -58,14 +60,14 @@ fn end_above(packages: &[Key], name: &[u8], prefix: u128, start: usize) -> usize
     start + 1
 }
 
-/// Where the packages of a name begin and end.
-pub(crate) fn span_of(packages: &[Key], name: &[u8]) -> (usize, usize)
+/// Where the packages of a name begin and end, with a guess at the beginning.
+pub(crate) fn span_of(packages: &[Key], name: &[u8], guess: usize) -> (usize, usize)
     requires { IsInOrder packages.now }
     ensures { IsSpan packages.now name.now result.0 result.1 }
 {
     let prefix = prefix_of(name);
-    let start = edge_within(packages, name, prefix, false, 0, packages.len());
+    let start = edge_within(packages, name, prefix, false, guess, 0, packages.len());
     let above = end_above(packages, name, prefix, start);
-    let end = edge_within(packages, name, prefix, true, start, above);
+    let end = edge_within(packages, name, prefix, true, start, start, above);
     (start, end)
 }

@@ -10,6 +10,7 @@ ghost use Rattle.dist_repo.specs.OwnPrivate.{AreOwn};
 ghost use Rattle.dist_repo.specs.Providers.{IsEntryOf};
 ghost use Rattle.dist_repo.specs.TallyPrivate.{AreNumbersOf, IsRowOf, IsTallyOf, Notes, NotesEach};
 
+use crate::guesses::Guesses;
 use crate::key::Key;
 use crate::matching::is_usable;
 use crate::name_key::NameKey;
@@ -139,6 +140,15 @@ impl<'a> Tally<'a> {
         Ok(())
     }
 
+    /// Where each name may stand among them in order.
+    fn guesses(&self) -> Result<Guesses, AllocError> {
+        let mut guesses = Guesses::for_names(self.alloc, self.offers.len())?;
+        for (place, (key, _)) in self.offers.iter().enumerate() {
+            guesses.note(key.name().bytes(), place);
+        }
+        Ok(guesses)
+    }
+
     /// The names, and beside each its providers and their offers, the packages' own among them, laid flat.
     pub(crate) fn flattened(&self, packages: &[Key], own: &[Offer]) -> Result<NameIndex, AllocError>
         requires in_order { IsInOrder packages.now }
@@ -148,10 +158,12 @@ impl<'a> Tally<'a> {
         ensures numbers { IfOk result (λ index. AllZip AreNumbersOf index.numbers index.offers) }
         ensures offers { IfOk result (λ index. AllZip (IsRowOf packages.now) index.offers self.now) }
     {
+        let guesses = self.guesses()?;
         let mut index = NameIndex {
             names: Flat::new(self.alloc),
             numbers: Flat::new(self.alloc),
             offers: Flat::new(self.alloc),
+            guesses,
         };
         match self.fill(packages, own, &mut index) {
             Ok(()) => Ok(index),
@@ -203,7 +215,7 @@ impl<'a> Tally<'a> {
     {
         for (key, list) in self.offers.iter() {
             let name = key.name().bytes();
-            let named = offers_named(packages, own, name);
+            let named = offers_named(packages, own, name, usize::MAX);
             write_order(packages, list.as_slice(), named, some_offers)?;
             write_numbers(some_offers, some_numbers)?;
             index.names.push(name)?;

@@ -19,7 +19,8 @@ use Rattle.dist_relation.specs.declared.atom.Bound.{Bound}
 use Rattle.dist_relation.specs.declared.atom.Provide.{Provide}
 use Rattle.dist_repo.specs.Match.{MatchesByEntry}
 use Rattle.dist_repo.specs.declared.package.Package.{Package}
-use Rattle.dist_space.specs.EntryOrder.{AreMatchedAlike, IsEntryNamed, are_alike, are_alike_to, entry_version, is_useless, rank_at, stand_alike, use_cmp, version_at, versions_alike}
+use Rattle.dist_space.specs.EntryOrder.{AreMatchedAlike, IsEntryNamed, are_alike, are_alike_to, entry_version, is_useless, rank_at, stand_alike, use_cmp}
+use Rattle.dist_space.specs.EntryOrder.{version_at, versions_alike}
 use Rattle.dist_space.specs.Space.{IsMatchedBy, SpaceView, example_at, member_classes, moved_entry, moved_version}
 use Rattle.dist_space.specs.Usable.{is_usable}
 use Rattle.dist_space.specs.UsableLaws.{is-usable, usable-is}
@@ -53,7 +54,8 @@ and-true true b first second = second
 and-true false b first second = absurd (false≢true first)
 
 alike-is : (third a b : List ℕ) → stand_alike third a b ≡ true → version_cmp a third ≡ version_cmp b third
-alike-is third a b is = same-index (version_cmp a third) (version_cmp b third) (eqb-true (ordering_index (version_cmp a third)) (ordering_index (version_cmp b third)) is)
+alike-is third a b is = same-index (version_cmp a third) (version_cmp b third) (eqb-true (ordering_index (version_cmp a third)) (ordering_index (version_cmp b
+    third)) is)
 
 is-alike : (third a b : List ℕ) → version_cmp a third ≡ version_cmp b third → stand_alike third a b ≡ true
 is-alike third a b is = eq-eqb (ordering_index (version_cmp a third)) (ordering_index (version_cmp b third)) (ap ordering_index is)
@@ -219,7 +221,8 @@ module _ (architecture : Option (List ℕ)) (atom : Atom) (own example : List �
       let here : IsSomeAnd (Moves moves b) (λ v. Satisfies v bound) = moved-alike bound a b moves (alike-is bound.version a b parts.1) meets in
       subst (λ (m : Bool). IsSomeAnd (Moves m b) (λ v. Satisfies v bound)) (ap is_eq (alike-is own a b parts.0)) here
 
-  pub matches-alike : (e f : Provide) → rank architecture e ≡ rank architecture f → versions_alike atom.bound own e.version f.version ≡ true → f.name ≡ atom.name
+  pub matches-alike : (e f : Provide) → rank architecture e ≡ rank architecture f → versions_alike atom.bound own e.version f.version ≡ true
+      → f.name ≡ atom.name
       → MatchesByEntry architecture atom (moved_entry own example e) → MatchesByEntry architecture atom (moved_entry own example f)
   matches-alike e f ranks alike named matches = record {
     usable = is-usable architecture f.qualifier

@@ -197,7 +197,8 @@ module _ (architecture : Option (List ℕ)) (provides : List Provide) where
 -- ---- the entries of a package by name
 
 pub named-iff : (architecture : Option (List ℕ)) (packages : List Package) (member : ℕ) (p : Package) (name : List ℕ) (order result : List ℕ)
-    → slice_get packages member ≡ Some p → IsEntryOrder architecture p.provides order → ((j : ℕ) → Contains result j ↔ (Contains order j × (name_at p.provides j ≡ name)))
+    → slice_get packages member ≡ Some p → IsEntryOrder architecture p.provides order → ((j : ℕ)
+    → Contains result j ↔ (Contains order j × (name_at p.provides j ≡ name)))
     → (j : ℕ) → Contains result j ↔ IsEntryNamed packages member name j
 named-iff architecture packages member p name order result is ordered iff j =
     let Named : Provide → Type 0 = λ entry. entry.name ≡ name in
@@ -221,7 +222,8 @@ use-order r member p places is rising q other =
 
 -- ---- the packages so far
 
-pub order-pushed : (architecture : Option (List ℕ)) (packages : List Package) (orders pushed : List (List ℕ)) (order : List ℕ) (n : ℕ) (p : Package) → pushed ≡ orders ++ order ∷ []
+pub order-pushed : (architecture : Option (List ℕ)) (packages : List Package) (orders pushed : List (List ℕ)) (order : List ℕ) (n : ℕ) (p : Package)
+    → pushed ≡ orders ++ order ∷ []
     → length orders ≡ n → slice_get packages n ≡ Some p → IsEntryOrder architecture p.provides order
     → ((k : ℕ) → k < n → (q : Package) → slice_get packages k ≡ Some q → IsEntryOrder architecture q.provides (get_or orders k []))
     → (k : ℕ) → k < n + 1 → (q : Package) → slice_get packages k ≡ Some q → IsEntryOrder architecture q.provides (get_or pushed k [])

@@ -1,5 +1,6 @@
 -- The entries of Provides of a package by their names.
-use Rattle.std.specs.Prelude.{◌≡◌, ◌↔◌, ◌==◌, ◌&&◌, ℕ, ◌<◌, Bool, true, false, List, [], Option, None, Some, Contains, IsSomeAnd, length}
+use Rattle.std.specs.Prelude.{◌≡◌, ◌↔◌, ◌==◌, ◌&&◌, ℕ, ◌<◌, Bool, true, false, List, [], Option, None, Some, Contains}
+use Rattle.std.specs.Prelude.{IsSomeAnd, length}
 use Rattle.std.specs.Prelude.{if◌then◌else◌, slice_get, slice_index_or}
 use Rattle.std.specs.Cmp.Lexicographic.{slice_cmp}
 use Rattle.std.specs.List.Sorted.{IsSortedBy}
@@ -48,7 +49,8 @@ version_at provides place = entry_version (slice_get provides place)
 
 -- entries of a name by use, the usable ones in front, and by version, those without one in front
 abbrev pub use_cmp : Option (List ℕ) → List Provide → ℕ → ℕ → Ordering
-use_cmp architecture provides i j = ordering_then (nat_cmp (rank_at architecture provides i) (rank_at architecture provides j))
+use_cmp architecture provides i j = ordering_then (nat_cmp (rank_at architecture provides i) (rank_at architecture
+    provides j))
     (option_cmp version_cmp (version_at provides i) (version_at provides j))
 
 -- places of entries of one name of a package in that order
@@ -58,7 +60,8 @@ AreInUseOrder r member places = (p : Package) → slice_get r.packages member �
 
 -- an atom matches both entries of a new version of a package, or neither
 abbrev pub AreMatchedAlike : SpaceView → Atom → (member class i j : ℕ) → Type 0
-AreMatchedAlike s atom member class i j = IsMatchedBy s atom (Kept member class i) ↔ IsMatchedBy s atom (Kept member class j)
+AreMatchedAlike s atom member class i j = IsMatchedBy s atom (Kept member class i) ↔ IsMatchedBy s atom (Kept member
+    class j)
 
 -- ---- in order. No public clause cites what follows.
 
@@ -69,7 +72,8 @@ entry_cmp architecture provides i j = ordering_then (slice_cmp nat_cmp (name_at 
 
 -- by name alone
 abbrev pub AreInNameOrder : List Provide → (places : List ℕ) → Type 0
-AreInNameOrder provides places = IsSortedBy (λ i j. is_lt (slice_cmp nat_cmp (name_at provides i) (name_at provides j))) places
+AreInNameOrder provides places = IsSortedBy (λ i j. is_lt (slice_cmp nat_cmp (name_at provides i) (name_at provides
+    j))) places
 
 -- the places of all entries, in order
 pub record IsEntryOrder (architecture : Option (List ℕ)) (provides : List Provide) (places : List ℕ) : Type 0 where

@@ -46,7 +46,8 @@ module _ (s : SpaceView) (atom : Atom) where
   matched-meaning r k j short matched = (
     at-more (λ (p : Package). IsSomeAnd (slice_get p.provides j) (EntryMatches r k p))
         (λ (p : Package). IsSomeAnd (slice_get p.provides j) (λ e. IsUsable s.repository.architecture e.qualifier))
-        (λ p here. at-more (EntryMatches r k p) (λ (e : Provide). IsUsable s.repository.architecture e.qualifier) (λ e matches. matches.usable) p.provides j here)
+        (λ p here. at-more (EntryMatches r k p) (λ (e : Provide). IsUsable s.repository.architecture e.qualifier) (λ e matches. matches.usable) p.provides j
+        here)
         s.repository.packages r matched,
     short,
   )

@@ -3,9 +3,8 @@
 ghost use Rattle.std.specs.Prelude.{◌≡◌, ◌↔◌, ◌∷◌, [], ℕ, Any, Contains, IfOk, IsTrue, OnOk};
 ghost use Rattle.dist_space_clauses.specs.Moving.{AreMovers, GoesAlong, IsMover, IsWith, Notes, numbers_at};
 
-use dist_classes::NameKey;
 use dist_relation::{Name, Provide};
-use dist_repo::{Package, Repository};
+use dist_repo::{NameKey, Package, Repository};
 use std::alloc::{AllocError, Global};
 use std::collections::BTreeMap;
 use std::marker::Model;
@@ -91,7 +90,7 @@ impl<'a> Movers<'a> {
     pub(crate) fn of(&self, name: &'a Name) -> &[u32]
         ensures { result.now ≡ numbers_at self.now name.now }
     {
-        match self.numbers.get(&NameKey { name }) {
+        match self.numbers.get(&NameKey::new(name)) {
             Some(numbers) => numbers.as_slice(),
             None => &[],
         }
@@ -101,7 +100,7 @@ impl<'a> Movers<'a> {
     fn note(&mut self, name: &'a Name, number: u32) -> Result<(), AllocError>
         ensures { OnOk result (Notes self.old self.new (λ q n. (name.now ≡ q) × (number ≡ n))) }
     {
-        let key = NameKey { name };
+        let key = NameKey::new(name);
         if let Some(numbers) = self.numbers.get_mut(&key) {
             return numbers.push(number);
         }

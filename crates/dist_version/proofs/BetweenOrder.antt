@@ -1,5 +1,6 @@
 -- The order of an extended part, and of tildes, without the texts.
-use Rattle.std.proofs.Common.{◌≡◌, ◌≢◌, ℕ, zero, suc, ◌+◌, ◌-◌, ◌<◌, ◌≤◌, List, [], ◌∷◌, ◌++◌, length, map, drop, ℤ, pos, negsuc, Ordering, Less, Equal, Greater}
+use Rattle.std.proofs.Common.{◌≡◌, ◌≢◌, ℕ, zero, suc, ◌+◌, ◌-◌, ◌<◌, ◌≤◌, List, [], ◌∷◌, ◌++◌, length, map, drop, ℤ, pos, negsuc, Ordering, Less, Equal}
+use Rattle.std.proofs.Common.{Greater}
 use Rattle.std.proofs.Common.{int_cmp, nat_cmp, true, false, None, refl, sym, ap, ap₂, ◌∙◌, subst, ◌⊎◌, inl, inr, arith, length-append}
 use Rattle.std.specs.Prelude.{codes, replicate}
 use Rattle.std.specs.Char.{is_ascii_digit}
@@ -13,10 +14,12 @@ use Rattle.dist_version.specs.Faults.{fault_of}
 use Rattle.dist_version.specs.Order.{after_turn, number_of, part_cmp, text_start, version_cmp, weight_at, weight_of, weights_cmp, weights_of}
 use Rattle.dist_version.specs.OrderLaws.{version_cmp-parts}
 use Rattle.dist_version.specs.Spelling.{Parts, after_epoch, epoch_digits, epoch_of, revision_of, upstream_of}
-use Rattle.dist_version.proofs.Density.{ExtendedTurn, Turned, above_parts_are, alone, below_parts_are, extended, extended_turn, letter_and, letter_turn, text_start-cons, tildes-all, other_byte}
+use Rattle.dist_version.proofs.Density.{ExtendedTurn, Turned, above_parts_are, alone, below_parts_are, extended, extended_turn, letter_and, letter_turn}
+use Rattle.dist_version.proofs.Density.{text_start-cons, tildes-all, other_byte}
 use Rattle.dist_version.proofs.InStep.{some_text}
 use Rattle.dist_version.proofs.Then.{then_go_on, then_stop}
-use Rattle.dist_version.proofs.Turns.{after_turn-shorter_by_one, part_cmp-by_turns, part_cmp-turn, text_weights, weight_nonzero, weights_cmp-drop, weights_of-empty, weights_of-turn}
+use Rattle.dist_version.proofs.Turns.{after_turn-shorter_by_one, part_cmp-by_turns, part_cmp-turn, text_weights, weight_nonzero, weights_cmp-drop}
+use Rattle.dist_version.proofs.Turns.{weights_of-empty, weights_of-turn}
 
 -- ---- tildes
 
@@ -177,7 +180,8 @@ module _ (n : ℕ) where
   letter-order q = by-turn (letter_and n) q (letter_turn n)
 
 pub tildes-order : (n : ℕ) (q : List ℕ) → part_cmp (replicate n tilde) q
-    ≡ ordering_then (weights_cmp (map weight_of (replicate n tilde)) (map weight_of (text_start q))) (ordering_then (nat_cmp 0 (number_of q)) (part_cmp [] (after_turn q)))
+    ≡ ordering_then (weights_cmp (map weight_of (replicate n tilde)) (map weight_of (text_start q))) (ordering_then (nat_cmp 0 (number_of q)) (part_cmp []
+    (after_turn q)))
 tildes-order n q = by-turn (replicate n tilde) q (alone (replicate n tilde) (tildes-all other_byte n refl))
 
 -- ---- whole versions

@@ -15,7 +15,8 @@ loop-number-preserved c =
     let order = c.deref.result.now in
     let n = c.loop-number.number in
     let is : c.push.new.self ≡ before ++ order ∷ [] = c.in_ok-push.ensures.ok in
-    let ordered : IsEntryOrder architecture p.provides order = subst (IsEntryOrder architecture p.provides) (sym c.deref.ensures.value) c.in_ok-write_order.ensures in
+    let ordered : IsEntryOrder architecture p.provides order = subst (IsEntryOrder architecture p.provides) (sym c.deref.ensures.value)
+    c.in_ok-write_order.ensures in
     record {
       counted = count-pushed before c.push.new.self order n is c.loop-number.invariant.counted;
       each = order-pushed architecture packages before c.push.new.self order n p is c.loop-number.invariant.counted c.package.ensures.value ordered

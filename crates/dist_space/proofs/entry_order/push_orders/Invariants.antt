@@ -7,5 +7,6 @@ use Rattle.dist_space.proofs.entry_order.push_orders.Given as goal
 abbrev pub invariant-loop-number : goal.invariant-loop-number
 invariant-loop-number l = record {
   counted : length l.orders ≡ l.number;
-  each : (k : ℕ) → k < l.number → (p : Package) → slice_get l.frame.repository.packages k ≡ Some p → IsEntryOrder l.frame.repository.architecture p.provides (get_or l.orders k []);
+  each : (k : ℕ) → k < l.number → (p : Package) → slice_get l.frame.repository.packages k ≡ Some p
+      → IsEntryOrder l.frame.repository.architecture p.provides (get_or l.orders k []);
 }

@@ -19,4 +19,5 @@ returns c =
     let new = c.collect_from.new.found.items in
     let is : t ≡ c.args.self.now = c.as_slice-bounds.ensures.value ∙ c.self.view_is in
     let Of : Entries → Type 0 = λ t. OnOk c.collect_from.result (AddsLeast old new (λ v. Contains t (name, v))) in
-    subst Of is (on_ok_weaker c.collect_from.result (start-found t name c.first_of.result (λ v. Contains t (name, v)) old new c.first_of.ensures) c.collect_from.ensures)
+    subst Of is (on_ok_weaker c.collect_from.result (start-found t name c.first_of.result (λ v. Contains t (name, v)) old new c.first_of.ensures)
+    c.collect_from.ensures)

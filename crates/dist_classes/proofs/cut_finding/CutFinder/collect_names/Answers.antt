@@ -1,4 +1,4 @@
-use Rattle.std.proofs.Common.{◌≡◌, ◌∷◌, ◌∙◌, ℕ, List, sym, ap, subst}
+use Rattle.std.proofs.Common.{ℕ, List, subst}
 use Rattle.dist_classes.proofs.FoundCuts.{AreCollected, collected-all, collected-more}
 use Rattle.dist_classes.proofs.cut_finding.CutFinder.collect_names.Goals as goal
 
@@ -10,10 +10,8 @@ loop-key-preserved c =
     let rest = c.next.new.self in
     let a = c.args.found.now.items in
     let b = c.loop-key.found.items in
-    let name = c.name.result.now in
-    let here : c.loop-key.key-iterator ≡ name ∷ rest = c.in-Some.ensures.steps ∙ ap (λ (n : List ℕ). n ∷ rest) (sym c.name.ensures) in
-    collected-more r top keys rest name a b c.collect_above.new.found.items
-    (subst (λ (left : List (List ℕ)). AreCollected r top keys left a b) here c.loop-key.invariant) c.in_ok-collect_above.ensures
+    collected-more r top keys rest c.in-Some.key.now a b c.collect_above.new.found.items
+    (subst (λ (left : List (List ℕ)). AreCollected r top keys left a b) c.in-Some.ensures.steps c.loop-key.invariant) c.in_ok-collect_above.ensures
 
 pub returns : goal.returns
 returns c =

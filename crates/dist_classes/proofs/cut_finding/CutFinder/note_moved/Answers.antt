@@ -12,8 +12,10 @@ pub loop-place-init : goal.loop-place-init
 loop-place-init c =
     let p = c.args.package.now in
     let old = c.args.names.now.keys in
-    let Of : List (List ℕ) → Type 0 = λ new. Adds old new (λ n. p.name ≡ n) in
-    moved-none c.args.self.now.architecture p old c.insert.new.self.keys (subst Of (sym c.in_ok-insert.ensures.keys) (adds-key old p.name))
+    let Named : List ℕ → Type 0 = λ name. Adds old c.insert.new.self.keys (λ n. name ≡ n) in
+    let Own : List (List ℕ) → Type 0 = λ new. Adds old new (λ n. c.new.result ≡ n) in
+    moved-none c.args.self.now.architecture p old c.insert.new.self.keys
+    (subst Named c.new.ensures (subst Own (sym c.in_ok-insert.ensures.keys) (adds-key old c.new.result)))
 
 pub loop-place-preserved : goal.loop-place-preserved
 loop-place-preserved c =
@@ -26,13 +28,14 @@ loop-place-preserved c =
     let Found : List (List ℕ) → Type 0 = λ keys. Adds a keys (IsMovedBy r.architecture p (place + 1)) in
     let Moves : PackageList → Type 0 = λ s. IsMoving s.architecture p entry in
     let Still : PackageList → Type 0 = λ s. ¬ IsMoving s.architecture p entry in
-    let Of : List (List ℕ) → Type 0 = λ new. Adds b new (λ n. entry.name ≡ n) in
     elim c.if-is_moving.branch [
       | then-is_moving+in_ok-insert-2 w ↦
           subst Found (sym (ap (λ v. v.keys) w.names-is))
           (moved-more r.architecture p place entry a b w.insert-then-is_moving.new.self.keys c.get-entry.ensures
           (subst Moves c.self.view_is (c.is_moving.ensures.0 w.if-is_moving.true))
-          c.loop-place.invariant (subst Of (sym w.in_ok-insert-2.ensures.keys) (adds-key b entry.name)))
+          c.loop-place.invariant (subst (λ (name : List ℕ). Adds b w.insert-then-is_moving.new.self.keys (λ n. name ≡ n)) w.new-then-is_moving.ensures
+          (subst (λ (new : List (List ℕ)). Adds b new (λ n. w.new-then-is_moving.result ≡ n)) (sym w.in_ok-insert-2.ensures.keys)
+          (adds-key b w.new-then-is_moving.result))))
       | else-is_moving w ↦
           subst Found (sym (ap (λ v. v.keys) w.names-is))
           (moved-still r.architecture p place entry a b c.get-entry.ensures
