@@ -1,5 +1,6 @@
 pub mod Parts
 pub mod OneForm
+pub mod SpellingLemmas
 pub mod WritingLemmas
 pub mod OneLine
 pub mod Filling

@@ -2,6 +2,7 @@ pub mod Form
 pub mod Rising
 pub mod ListLaws
 pub mod RisingLaws
+pub mod SpellingPrivate
 pub mod Writing
 pub mod Subject
 pub mod Groups

@@ -1,14 +1,15 @@
-//! Reads lines by their form. A line is first read loosely, as the one value that it can be of; then that value's text is
-//! made and compared with the line, so that no rule of spelling is tested twice.
+//! Reads lines by their form. A line is first read loosely, as the one value that it can be of; then the line is held against
+//! that value's text, so that no rule of spelling is tested twice.
 ghost use Rattle.std.specs.Prelude.{◌≡◌, ◌↔◌, IsTrue, IfOk};
 ghost use Rattle.dist_cert.specs.Form.{record_text, KeepsRules, header_text, KeepsLimit};
 ghost use Rattle.dist_cert.specs.LooseHeaderPrivate.{kind_in, mode_in, header_with, loose_header, IsReadAs, IsReadAsHeader};
 
 use crate::decoding::decode;
-use crate::line_text::{add_header_text, add_record_text, kind_word, mode_word};
+use crate::line_text::{add_header_text, kind_word, mode_word};
 use crate::loose_words::Words;
 use crate::records::{CertKind, CertRecord, Header};
 use crate::rules::keeps_rules;
+use crate::spelling::is_text_of;
 use dist_base::MAX_LIMIT;
 use std::alloc::{AllocError, Global};
 
@@ -55,9 +56,7 @@ impl Forms {
         ensures { IfOk result (λ is. IsTrue is ↔ (KeepsRules step.now × (record_text step.now ≡ line.now))) }
     {
         let kept = keeps_rules(step, &mut self.variables)?;
-        self.text.clear();
-        add_record_text(&mut self.text, step)?;
-        Ok(kept && self.text.as_slice() == line)
+        Ok(kept && is_text_of(line, step))
     }
 
     /// The header of a line, if it has the form of a first line.

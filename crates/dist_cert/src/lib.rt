@@ -19,6 +19,7 @@ mod pieces;
 mod reading;
 mod records;
 mod rules;
+mod spelling;
 mod writing;
 
 pub use clear_forms::forms_are_clear;

@@ -58,7 +58,7 @@ fn add_separator(text: &mut Vec<u8>) -> Result<(), AllocError>
 }
 
 /// The letter that the line of a record begins with.
-fn letter_of(step: &CertRecord) -> u8
+pub(crate) fn letter_of(step: &CertRecord) -> u8
     ensures { result ≡ letter step.now }
 {
     match step {
@@ -115,7 +115,7 @@ fn add_words(text: &mut Vec<u8>, step: &CertRecord) -> Result<(), AllocError>
 }
 
 /// Adds the text of a record, without a line feed.
-pub(crate) fn add_record_text(text: &mut Vec<u8>, step: &CertRecord) -> Result<(), AllocError>
+fn add_record_text(text: &mut Vec<u8>, step: &CertRecord) -> Result<(), AllocError>
     ensures { OnOk result (text.new.items ≡ text.old.items ++ record_text step.now) }
 {
     text.push(letter_of(step))?;

@@ -1,0 +1,17 @@
+use Rattle.std.proofs.Common.{get_or, subst}
+use Rattle.dist_cert.specs.Form.{plain, plains, words_text}
+use Rattle.dist_cert.specs.SpellingPrivate.{Leaves}
+use Rattle.dist_cert.proofs.SpellingLemmas.{first-more, first-never, numbers-add, word_behind}
+use Rattle.dist_cert.proofs.spelling.behind_numbers.Goals as goal
+
+pub returns-in-None : goal.returns-in-None
+returns-in-None c =
+    first-never (λ ns. words_text (plains ns)) (λ n. word_behind (plain n)) numbers-add c.args.text.now _ c.loop-left.rest.now c.loop-left.left.now 0
+    c.in-len1-up.len_at_least c.loop-left.invariant
+    (subst (Leaves c.loop-left.rest.now (word_behind (plain (get_or c.loop-left.left.now 0 0)))) c.in-None.is c.behind_word.ensures)
+
+pub loop-left-preserved : goal.loop-left-preserved
+loop-left-preserved c =
+    first-more (λ ns. words_text (plains ns)) (λ n. word_behind (plain n)) numbers-add c.args.text.now _ c.loop-left.rest.now c.loop-left.left.now 0
+    c.in-len1-up.len_at_least c.loop-left.invariant
+    c.in-Some.behind (subst (Leaves c.loop-left.rest.now (word_behind (plain (get_or c.loop-left.left.now 0 0)))) c.in-Some.is c.behind_word.ensures)
