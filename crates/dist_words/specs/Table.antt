@@ -18,6 +18,7 @@ use Rattle.std.specs.Prelude.{◌≡◌, ℕ, ◌&&◌, Bool, not, List, [], ◌
 use Rattle.std.specs.Prelude.{option_and_then, unwrap_or}
 use Rattle.std.specs.Str.{bytes_eq}
 use Rattle.dist_base.specs.declared.TheConstants.{DEFAULT_LIMIT}
+use Rattle.dist_cert.specs.Form.{kind_text}
 use Rattle.dist_cert.specs.declared.records.CertKind.{CertKind}
 use Rattle.dist_cert.specs.declared.records.CertKind.TheVariants.{Strong, Outdated, Challenged}
 use Rattle.clap.specs.Walk.{Text, is_empty}
@@ -73,53 +74,86 @@ with_none command files = None
 abbrev pub where_allowed : Bool → Option CommandLine → Option CommandLine
 where_allowed allowed line = if allowed then line else None
 
--- a sweep of a kind, with the limit of a question that its options give, or where they give none
-abbrev pub sweep_with : CertKind → Options → Text → Text → CommandLine
-sweep_with kind options packages cert =
-    Sweep kind packages cert options.essential (unwrap_or options.limit DEFAULT_LIMIT)
+-- a row of the table: the command's word, which options may stand with it, and the command of its files and options
+pub record Row : Type 0 where
+  pub word : Text
+  pub allows : Options → Bool
+  pub command : List Text → Options → Option CommandLine
 
--- a command that sweeps
-abbrev pub swept : CertKind → List Text → Options → Option CommandLine
-swept kind files options =
-    where_allowed (has_no_seed options && names_none options) (with_two (sweep_with kind options) files)
+-- a command that takes no option
+abbrev pub plain_row : Text → (List Text → Option CommandLine) → Row
+plain_row word command = record { word = word; allows = has_no_option; command = λ files options. command files }
+
+-- a sweep of a kind by the kind's word, with the limit of a question that its options give, or where they give none
+abbrev pub sweep_row : CertKind → Row
+sweep_row kind = record {
+  word = kind_text kind;
+  allows = λ options. has_no_seed options && names_none options;
+  command = λ files options. with_two (λ packages cert.
+      Sweep kind packages cert options.essential (unwrap_or options.limit DEFAULT_LIMIT)) files;
+}
 
 -- a command on the package that its options name, if they name one
-abbrev pub explained : List Text → Options → Option CommandLine
-explained files options = where_allowed (has_no_seed options && (not options.essential && not (is_some options.most)))
-    (option_and_then (λ named. with_two (λ packages cert.
-    Explain packages cert named (unwrap_or options.limit DEFAULT_LIMIT)) files) options.named)
+abbrev pub explain_row : Row
+explain_row = record {
+  word = codes "explain";
+  allows = λ options. has_no_seed options && (not options.essential && not (is_some options.most));
+  command = λ files options. option_and_then (λ named. with_two (λ packages cert.
+      Explain packages cert named (unwrap_or options.limit DEFAULT_LIMIT)) files) options.named;
+}
 
 -- and one that counts clusters, up to 8 where no option says it
-abbrev pub repaired : List Text → Options → Option CommandLine
-repaired files options = where_allowed (has_no_seed options && not options.essential)
-    (option_and_then (λ named. with_two (λ packages cert. Repair packages cert named
-    (unwrap_or options.most DEFAULT_MOST) (unwrap_or options.limit DEFAULT_LIMIT)) files) options.named)
+abbrev pub repair_row : Row
+repair_row = record {
+  word = codes "repair";
+  allows = λ options. has_no_seed options && not options.essential;
+  command = λ files options. option_and_then (λ named. with_two (λ packages cert.
+      Repair packages cert named (unwrap_or options.most DEFAULT_MOST) (unwrap_or options.limit DEFAULT_LIMIT))
+      files) options.named;
+}
 
 -- with a size and a seed
 abbrev pub seeded : Option ℕ → Option ℕ → Option CommandLine
 seeded (Some size) (Some seed) = Some (Try size seed)
 seeded size seed = None
 
--- the command of the words, by its name: how many files it takes, and which options
+abbrev pub try_row : Row
+try_row = record {
+  word = codes "try";
+  allows = λ options. has_no_limit options && names_none options;
+  command = λ files options. with_none (seeded options.size options.seed) files;
+}
+
+abbrev pub table : List Row
+table =
+    plain_row (codes "health") (with_two Health)
+    ∷ plain_row (codes "classes") (with_one Classes)
+    ∷ sweep_row Strong
+    ∷ sweep_row Outdated
+    ∷ sweep_row Challenged
+    ∷ plain_row (codes "check") (with_two Check)
+    ∷ plain_row (codes "check-explain") (with_two CheckExplain)
+    ∷ explain_row
+    ∷ plain_row (codes "check-repair") (with_two CheckRepair)
+    ∷ repair_row
+    ∷ try_row
+    ∷ plain_row (codes "steps") (with_two Steps)
+    ∷ plain_row (codes "follow") (with_three Follow)
+    ∷ []
+
+-- a row's command, where the options may stand with it
+abbrev pub row_command : Row → List Text → Options → Option CommandLine
+row_command row files options = where_allowed (row.allows options) (row.command files options)
+
+-- the command of the first row with a word
+abbrev pub looked_up : List Row → Text → List Text → Options → Option CommandLine
+looked_up [] word files options = None
+looked_up (row ∷ rows) word files options =
+    if bytes_eq word row.word then row_command row files options else looked_up rows word files options
+
+-- the command of the words, by its name
 abbrev pub in_table : Text → List Text → Options → Option CommandLine
-in_table word files options =
-    if bytes_eq word (codes "health") then where_allowed (has_no_option options) (with_two Health files)
-    else (if bytes_eq word (codes "classes") then where_allowed (has_no_option options) (with_one Classes files)
-    else (if bytes_eq word (codes "strong") then swept Strong files options
-    else (if bytes_eq word (codes "outdated") then swept Outdated files options
-    else (if bytes_eq word (codes "challenged") then swept Challenged files options
-    else (if bytes_eq word (codes "check") then where_allowed (has_no_option options) (with_two Check files)
-    else (if bytes_eq word (codes "check-explain") then where_allowed (has_no_option options)
-    (with_two CheckExplain files)
-    else (if bytes_eq word (codes "explain") then explained files options
-    else (if bytes_eq word (codes "check-repair") then where_allowed (has_no_option options)
-    (with_two CheckRepair files)
-    else (if bytes_eq word (codes "repair") then repaired files options
-    else (if bytes_eq word (codes "try") then where_allowed (has_no_limit options && names_none options)
-    (with_none (seeded options.size options.seed) files)
-    else (if bytes_eq word (codes "steps") then where_allowed (has_no_option options) (with_two Steps files)
-    else (if bytes_eq word (codes "follow") then where_allowed (has_no_option options) (with_three Follow files)
-    else None))))))))))))
+in_table word files options = looked_up table word files options
 
 -- the command that the table has for what was taken
 abbrev pub accepted : Taken → Option CommandLine

@@ -47,6 +47,12 @@ repair_counts : in_table (codes "repair") (codes "f" ∷ codes "g" ∷ [])
     ≡ Some (Repair (codes "f") (codes "g") (codes "a=1") 2 10000)
 repair_counts = refl
 
+-- `repair f g --package a=1`
+repair_counts_to_eight : in_table (codes "repair") (codes "f" ∷ codes "g" ∷ [])
+    (record no_option { named = Some (codes "a=1") })
+    ≡ Some (Repair (codes "f") (codes "g") (codes "a=1") 8 10000)
+repair_counts_to_eight = refl
+
 -- `explain f g`
 explain_needs_a_package : in_table (codes "explain") (codes "f" ∷ codes "g" ∷ []) no_option ≡ None
 explain_needs_a_package = refl

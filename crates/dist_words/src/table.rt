@@ -6,7 +6,7 @@ ghost use Rattle.dist_words.specs.Clap.{taken_of};
 ghost use Rattle.dist_words.specs.SimpleCommandPrivate.{IsMatched};
 ghost use Rattle.dist_words.specs.CommandLine.{Health, Classes, Check, CheckExplain, CheckRepair, Follow, Steps};
 ghost use Rattle.dist_words.specs.Lines.{HasLimit, IsLimit, IsSize, line_of, names, seen};
-ghost use Rattle.dist_words.specs.Table.{IsBadWords, accepted, command_of, explained, in_table, has_no_limit, has_no_option, has_no_seed, names_none, repaired, seeded, swept, where_allowed, with_none, with_one, with_three, with_two};
+ghost use Rattle.dist_words.specs.Table.{IsBadWords, accepted, command_of, explain_row, has_no_limit, has_no_option, has_no_seed, in_table, names_none, repair_row, row_command, seeded, sweep_row, where_allowed, with_none, with_one, with_three, with_two};
 ghost use Rattle.dist_base.specs.declared.TheConstants.{MAX_MOST};
 ghost use Rattle.dist_words.specs.declared.error.WordsError.TheVariants.{BadWords};
 
@@ -143,7 +143,7 @@ fn classes<'a>(files: &[&'a str], options: Options<'_>) -> Option<Command<'a>>
 /// `strong`, `outdated` or `challenged PACKAGES CERT`, by its kind.
 fn sweep<'a>(kind: CertKind, files: &[&'a str], options: Options<'_>) -> Option<Command<'a>>
     requires { IfSome options.limit IsLimit }
-    ensures command { option_map line_of result ≡ swept kind (names files.now) (seen options.entry) }
+    ensures command { option_map line_of result ≡ row_command (sweep_row kind) (names files.now) (seen options.entry) }
     ensures limit { IfSome result HasLimit }
 {
     match files {
@@ -187,7 +187,7 @@ fn check_explain<'a>(files: &[&'a str], options: Options<'_>) -> Option<Command<
 /// `explain PACKAGES CERT`, with a package that is named.
 fn explain<'a>(files: &[&'a str], options: Options<'a>) -> Option<Command<'a>>
     requires { IfSome options.limit IsLimit }
-    ensures command { option_map line_of result ≡ explained (names files.now) (seen options.entry) }
+    ensures command { option_map line_of result ≡ row_command explain_row (names files.now) (seen options.entry) }
     ensures limit { IfSome result HasLimit }
 {
     match (files, options.named) {
@@ -220,7 +220,7 @@ fn check_repair<'a>(files: &[&'a str], options: Options<'_>) -> Option<Command<'
 fn repair<'a>(files: &[&'a str], options: Options<'a>) -> Option<Command<'a>>
     requires limit { IfSome options.limit IsLimit }
     requires most { IfSome options.most (λ most. most ≤ MAX_MOST) }
-    ensures command { option_map line_of result ≡ repaired (names files.now) (seen options.entry) }
+    ensures command { option_map line_of result ≡ row_command repair_row (names files.now) (seen options.entry) }
     ensures limit { IfSome result HasLimit }
 {
     match (files, options.named) {
