@@ -2,7 +2,7 @@
 use Rattle.std.proofs.Common.{◌≡◌, ◌≢◌, ◌≤◌, List, [], ◌∷◌, ◌++◌, length, take, ap, sym, ◌∙◌, arith}
 use Rattle.std.proofs.lemmas.List.{take_all, take-take, take-append-le}
 use Rattle.std.specs.List.{Contains}
-use Rattle.std.proofs.lemmas.List.Elements.{All-weaker, All-contains, All-contains_itself, Contains-append_left}
+use Rattle.std.proofs.lemmas.List.Elements.{All-weaker, All-contains, All-contains_itself, Contains-append_left, Contains-append_right}
 use Rattle.dist_clause.specs.Formula.{Literal, negation}
 use Rattle.dist_derive.specs.Propagation.{IsFalse, AllFalse, OthersFalse}
 use Rattle.dist_derive.specs.ContainmentPrivate.{ContainsAll}
@@ -12,6 +12,15 @@ ContainsAll-itself xs = All-contains_itself xs
 
 pub ContainsAll-then : {X : Type 0} (xs ys zs : List X) → ContainsAll ys xs → ContainsAll zs ys → ContainsAll zs xs
 ContainsAll-then xs ys zs first second = All-weaker (Contains ys) (Contains zs) (λ x e. All-contains (Contains zs) ys x second e) xs first
+
+-- what has two lists one behind the other has both
+pub ContainsAll-first : {X : Type 0} (xs ys zs : List X) → ContainsAll zs (xs ++ ys) → ContainsAll zs xs
+ContainsAll-first xs ys zs h = ContainsAll-then xs (xs ++ ys) zs
+    (All-weaker (Contains xs) (Contains (xs ++ ys)) (λ x e. Contains-append_left xs ys x e) xs (All-contains_itself xs)) h
+
+pub ContainsAll-second : {X : Type 0} (xs ys zs : List X) → ContainsAll zs (xs ++ ys) → ContainsAll zs ys
+ContainsAll-second xs ys zs h = ContainsAll-then ys (xs ++ ys) zs
+    (All-weaker (Contains ys) (Contains (xs ++ ys)) (λ x e. Contains-append_right xs ys x e) ys (All-contains_itself ys)) h
 
 pub ContainsAll-push : {X : Type 0} (xs : List X) (x : X) → ContainsAll (xs ++ x ∷ []) xs
 ContainsAll-push xs x = All-weaker (Contains xs) (Contains (xs ++ x ∷ [])) (λ y e. Contains-append_left xs (x ∷ []) y e) xs (All-contains_itself xs)

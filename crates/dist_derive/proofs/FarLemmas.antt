@@ -27,7 +27,8 @@ module _ (inputs : List (List Literal)) where
         → All (λ l. Contains cone l.variable ⊎ Contains far.set.members l.variable) (clause_at clauses number))
         → AreReachedLines inputs clauses cone last
     far_lines n far cone h within each number above to has all under =
-        let starts : HasAll has far.starts = All-weaker (Contains cone) (λ v. has v ≡ true) (λ v. All-contains (λ w. has w ≡ true) cone v all) far.starts within in
+        let starts : HasAll has far.starts = All-weaker (Contains cone) (λ v. has v ≡ true) (λ v. All-contains (λ w. has w ≡ true) cone v all) far.starts
+        within in
         All-weaker (λ l. Contains cone l.variable ⊎ Contains far.set.members l.variable) (λ l. has l.variable ≡ true)
         (λ l. ⊎_elim (All-contains (λ v. has v ≡ true) cone l.variable all)
         (All-contains (λ v. has v ≡ true) far.set.members l.variable (h.least has starts under)))

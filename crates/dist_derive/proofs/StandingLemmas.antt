@@ -4,7 +4,7 @@ use Rattle.std.proofs.Common.{sym, subst, ◌∙◌, append_assoc, arith, length
 use Rattle.std.specs.List.{All, Contains}
 use Rattle.std.proofs.lemmas.Bool.{cases_lt, false≢true, true≢false}
 use Rattle.std.proofs.lemmas.List.{length_push, get_or_append_left, get_or_past, take_all, take-append-le}
-use Rattle.std.proofs.lemmas.List.Elements.{All-nil}
+use Rattle.std.proofs.lemmas.List.Elements.{All-append, All-nil}
 use Rattle.dist_clause.specs.Formula.{Literal}
 use Rattle.dist_clause.specs.ClauseList.{clause_at}
 use Rattle.dist_derive.specs.ContainmentPrivate.{ContainsAll}
@@ -15,7 +15,7 @@ use Rattle.dist_derive.specs.SweepPrivate.{IsForced, IsRefuted}
 use Rattle.dist_derive.specs.AssumePrivate.{AssumesAll}
 use Rattle.dist_derive.specs.WatchesPrivate.{WatchLists, pair_of, AreWatchesOf, IsWatched, IsFree, IsGuarded, AllGuarded, StayFree, Advances, Stands}
 use Rattle.dist_derive.specs.WatchesPrivate.{WatchingState, IsGrounded, IsStanding, IsStandingIfMade, StandsFor, Tries}
-use Rattle.dist_derive.proofs.AssumeLemmas.{ContainsAll-itself, ContainsAll-then, take-all, front-then}
+use Rattle.dist_derive.proofs.AssumeLemmas.{ContainsAll-first, ContainsAll-itself, ContainsAll-second, ContainsAll-then, take-all, front-then}
 use Rattle.dist_derive.proofs.BeginLemmas.{Begins, All-fewer, begins_unset, unset_begins}
 use Rattle.dist_derive.proofs.GuardLemmas.{true_one_more, ContainsAll-take, take-front}
 use Rattle.dist_derive.proofs.WatchLemmas.{nowhere}
@@ -260,13 +260,14 @@ refused_by clauses assumptions seen holds refuted (first ∷ rest) h =
     let settled = h.1.settled in
     refuted h.0 (holds h.0 h.1.assumed settled.propagated) settled.propagated settled.no_conflict
 
-pub refused_early : (clauses : List (List Literal)) (assumptions : List Literal) (s m : LiteralList)
-    → ((trues : List Literal) → ContainsAll trues assumptions → All (IsPropagated trues) clauses → ContainsAll trues s.literals)
-    → AssumesAll s m assumptions false → (clause : List Literal) → ¬ LeavesFirstUnset clauses assumptions clause
-refused_early clauses assumptions s m holds assumes [] h = h
-refused_early clauses assumptions s m holds assumes (first ∷ rest) h =
+pub refused_early : (clauses : List (List Literal)) (before assumed : List Literal) (s m : LiteralList)
+    → ((trues : List Literal) → ContainsAll trues before → All (IsPropagated trues) clauses → ContainsAll trues s.literals)
+    → AssumesAll s m assumed false → (clause : List Literal) → ¬ LeavesFirstUnset clauses (before ++ assumed) clause
+refused_early clauses before assumed s m holds assumes [] h = h
+refused_early clauses before assumed s m holds assumes (first ∷ rest) h =
     let settled = h.1.settled in
-    assumes.refused refl h.0 (holds h.0 h.1.assumed settled.propagated) h.1.assumed settled.consistent
+    assumes.refused refl h.0 (holds h.0 (ContainsAll-first before assumed h.0 h.1.assumed) settled.propagated)
+    (ContainsAll-second before assumed h.0 h.1.assumed) settled.consistent
 
 -- more clauses are taken in
 pub standing_more : (clauses : List (List Literal)) (variables last : ℕ) (old new : WatchingState) → IsStanding clauses variables old
@@ -286,28 +287,32 @@ standing_more clauses variables last old new h less within step guarded ground g
       }));
 }
 
--- what is true without an assumption is held by all that is closed
-pub alone_held : (clauses : List (List Literal)) (variables last : ℕ) (old : WatchingState) → IsStanding clauses variables old → old.assumptions ≡ []
-    → old.taken ≡ last → (trues : List Literal) → All (IsPropagated trues) (take last clauses) → ContainsAll trues old.literals.literals
-alone_held clauses variables last old h none was trues propagated =
-    h.under.forced trues (subst (λ ls. ContainsAll trues ls) (sym none) (All-nil (Contains trues)))
-    (subst (λ n. All (IsPropagated trues) (take n clauses)) (sym was) propagated)
+-- what is true under assumptions is held by all that has these and is closed
+pub taken_held : (clauses : List (List Literal)) (variables last : ℕ) (old : WatchingState) → IsStanding clauses variables old → old.taken ≡ last
+    → (trues : List Literal) → ContainsAll trues old.assumptions → All (IsPropagated trues) (take last clauses)
+    → ContainsAll trues old.literals.literals
+taken_held clauses variables last old h was trues all propagated =
+    h.under.forced trues all (subst (λ n. All (IsPropagated trues) (take n clauses)) (sym was) propagated)
 
--- and come under assumptions
+-- and comes under more assumptions
 pub standing_under : (clauses : List (List Literal)) (variables last : ℕ) (assumed : List Literal) (old new : WatchingState) (m : LiteralList)
-    → IsStanding clauses variables old → old.assumptions ≡ [] → old.taken ≡ last → AssumesAll old.literals m assumed true
+    → IsStanding clauses variables old → old.taken ≡ last → AssumesAll old.literals m assumed true
     → Advances clauses last old.watches new.watches m new.literals
     → AllGuarded new.watches clauses last new.literals.literals new.literals.literals → new.ground ≡ old.ground → new.grounded ≡ old.grounded
-    → new.assumptions ≡ assumed → new.taken ≡ last → IsStanding clauses variables new
-standing_under clauses variables last assumed old new m h none was assumes step guarded ground grounded assumptions taken = record {
+    → new.assumptions ≡ old.assumptions ++ assumed → new.taken ≡ last → IsStanding clauses variables new
+standing_under clauses variables last assumed old new m h was assumes step guarded ground grounded assumptions taken = record {
   is_grounded = grounded_tries clauses variables old new h.is_grounded
       (tries_both clauses old.watches old.literals m assumed true h.is_grounded.watched assumes last new.watches new.literals step) ground grounded;
   under = subst (λ n. Stands new.watches clauses new.assumptions new.literals.literals n) (sym taken)
       (subst (λ ls. Stands new.watches clauses ls new.literals.literals last) (sym assumptions) (record {
         within = subst (λ n. n ≤ length clauses) was h.under.within;
-        assumed = ContainsAll-then assumed m.literals new.literals.literals (assumes.assumed refl) step.grows.kept;
+        assumed = All-append (Contains new.literals.literals) old.assumptions assumed
+            (ContainsAll-then old.assumptions m.literals new.literals.literals
+            (ContainsAll-then old.assumptions old.literals.literals m.literals h.under.assumed assumes.kept) step.grows.kept)
+            (ContainsAll-then assumed m.literals new.literals.literals (assumes.assumed refl) step.grows.kept);
         forced = λ trues all propagated. step.grows.forced trues
-            (assumes.least trues (alone_held clauses variables last old h none was trues propagated) all) propagated;
+            (assumes.least trues (taken_held clauses variables last old h was trues (ContainsAll-first old.assumptions assumed trues all) propagated)
+            (ContainsAll-second old.assumptions assumed trues all)) propagated;
         guarded = guarded;
       }));
 }
@@ -347,7 +352,7 @@ module _ (clauses : List (List Literal)) (variables last : ℕ) (old new : Watch
         (held old.watches clauses old.assumptions old.literals.literals old.taken last h.under less within) refuted;
   }
 
-  module _ (assumed : List Literal) (m : LiteralList) (none : old.assumptions ≡ []) (was : old.taken ≡ last) where
+  module _ (assumed : List Literal) (m : LiteralList) (was : old.taken ≡ last) where
     pub grounded_under : (fine : Bool) → AssumesAll old.literals m assumed fine → Advances clauses last old.watches new.watches m new.literals
         → new.ground ≡ old.ground → new.grounded ≡ old.grounded → IsGrounded clauses variables new
     grounded_under fine assumes step ground grounded = grounded_tries clauses variables old new h.is_grounded
@@ -362,28 +367,31 @@ module _ (clauses : List (List Literal)) (variables last : ℕ) (old new : Watch
 
     pub stands_under : AssumesAll old.literals m assumed true → Advances clauses last old.watches new.watches m new.literals
         → AllGuarded new.watches clauses last new.literals.literals new.literals.literals → new.ground ≡ old.ground → new.grounded ≡ old.grounded
-        → new.assumptions ≡ assumed → new.taken ≡ last → StandsFor clauses variables assumed last new true
+        → new.assumptions ≡ old.assumptions ++ assumed → new.taken ≡ last → StandsFor clauses variables (old.assumptions ++ assumed) last new true
     stands_under assumes step guarded ground grounded assumptions taken = record {
-      standing = standing_under clauses variables last assumed old new m h none was assumes step guarded ground grounded assumptions taken;
+      standing = standing_under clauses variables last assumed old new m h was assumes step guarded ground grounded assumptions taken;
       under = λ _. (assumptions, taken);
       refused = λ e. absurd (true≢false e);
     }
 
     pub stands_refuted_under : AssumesAll old.literals m assumed true → IsRefuted (take last clauses) m.literals → IsStanding clauses variables new
-        → StandsFor clauses variables assumed last new false
+        → StandsFor clauses variables (old.assumptions ++ assumed) last new false
     stands_refuted_under assumes refuted standing = record {
       standing = standing;
       under = λ e. absurd (false≢true e);
-      refused = λ _. refused_by (take last clauses) assumed m.literals
-          (λ trues all propagated. assumes.least trues (alone_held clauses variables last old h none was trues propagated) all) refuted;
+      refused = λ _. refused_by (take last clauses) (old.assumptions ++ assumed) m.literals
+          (λ trues all propagated. assumes.least trues
+          (taken_held clauses variables last old h was trues (ContainsAll-first old.assumptions assumed trues all) propagated)
+          (ContainsAll-second old.assumptions assumed trues all)) refuted;
     }
 
-    pub stands_refused : AssumesAll old.literals m assumed false → IsStanding clauses variables new → StandsFor clauses variables assumed last new false
+    pub stands_refused : AssumesAll old.literals m assumed false → IsStanding clauses variables new
+        → StandsFor clauses variables (old.assumptions ++ assumed) last new false
     stands_refused assumes standing = record {
       standing = standing;
       under = λ e. absurd (false≢true e);
-      refused = λ _. refused_early (take last clauses) assumed old.literals m
-          (λ trues all propagated. alone_held clauses variables last old h none was trues propagated) assumes;
+      refused = λ _. refused_early (take last clauses) old.assumptions assumed old.literals m
+          (λ trues all propagated. taken_held clauses variables last old h was trues all propagated) assumes;
     }
 
 -- what no clause can be new with alone, none can with assumptions
@@ -411,3 +419,17 @@ told_under clauses variables last assumed clause watching answer h assumptions t
       λ e. unset_begins (take last clauses) assumed watching.literals.literals clause begins (told.0 e),
       λ g. told.1 (begins_unset (take last clauses) assumed watching.literals.literals clause begins g),
     )
+
+-- what is left unset with more true literals is left unset with fewer assumptions
+pub told_above : (clauses : List (List Literal)) (seen assumed clause : List Literal) → ContainsAll seen assumed
+    → LeavesFirstUnset clauses seen clause → LeavesFirstUnset clauses assumed clause
+told_above clauses seen assumed [] among h = h
+told_above clauses seen assumed (first ∷ rest) among h = (
+  h.0,
+  record {
+    settled = h.1.settled;
+    assumed = ContainsAll-then assumed seen h.0 among h.1.assumed;
+    denied = h.1.denied;
+    unset = h.1.unset;
+  },
+)

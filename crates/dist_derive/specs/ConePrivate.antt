@@ -42,4 +42,5 @@ AreLinesWithin inputs clauses assumptions last = (number : ℕ) → last < numbe
 -- each closed set that has the members has all variables of the clauses with numbers above the last one
 abbrev pub AreReachedLines : List (List Literal) → List (List Literal) → List ℕ → ℕ → Type 0
 AreReachedLines inputs clauses members last = (number : ℕ) → last < number → number ≤ length clauses
-    → (has : ℕ → Bool) → HasAll has members → IsClosedUnder has inputs → All (λ l. has l.variable ≡ true) (clause_at clauses number)
+    → (has : ℕ → Bool) → HasAll has members → IsClosedUnder has inputs
+    → All (λ l. has l.variable ≡ true) (clause_at clauses number)

@@ -12,7 +12,8 @@ pub record IsIndexed (inputs lines : ClauseList) (index : OccurrenceLists) : Typ
   pub is_index : IsIndexOf index (joined inputs lines).clauses
 
 -- the index, and where there is anything what the last test has left and what lies far, are those of the clauses
-pub record IsKept (inputs lines : ClauseList) (index : OccurrenceLists) (watching : WatchingState) (far : FarView) : Type 0 where
+pub record IsKept (inputs lines : ClauseList) (index : OccurrenceLists) (watching : WatchingState) (far : FarView) :
+    Type 0 where
   pub indexed : IsIndexed inputs lines index
   pub standing : IsStandingIfMade (joined inputs lines).clauses inputs.variables watching
   pub is_far : IsFarIfMade inputs.clauses inputs.variables far

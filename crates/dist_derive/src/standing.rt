@@ -4,8 +4,9 @@
 //! ones than those of the test before. A clause's own literals come on top and go again. Each answer that needs memory that
 //! is refused stays open, and what was kept is given up.
 
-ghost use Rattle.std.specs.Prelude.{◌≡◌, ◌≤◌, ◌↔◌, ℕ, false, List, [], length, take, All, IfOk, IsTrue};
+ghost use Rattle.std.specs.Prelude.{◌≡◌, ◌≤◌, ◌↔◌, ◌++◌, ℕ, false, List, [], length, take, All, IfOk, IsTrue};
 ghost use Rattle.dist_clause.specs.Formula.{Literal, IsClauseOver};
+ghost use Rattle.dist_derive.specs.ContainmentPrivate.{ContainsAll};
 ghost use Rattle.dist_derive.specs.New.{LeavesFirstUnset};
 ghost use Rattle.dist_derive.specs.WatchesPrivate.{AreWatchesOf, AllGuarded, Tries, IsStanding, IsStandingIfMade, StandsFor};
 
@@ -62,11 +63,69 @@ impl Log {
             ↔ LeavesFirstUnset (take last self.now.clauses) assumptions.now clause.now) }
         ensures standing { IfOk result (λ _. IsStandingIfMade self.now.clauses self.now.variables watching.new) }
     {
+        if self.tell_above(watching, assumptions, clause, last)? {
+            return Ok(true);
+        }
         self.make(watching, last)?;
         if !self.stand(watching, assumptions, last)? {
             return Ok(false);
         }
         self.tell_clause(watching, clause, last)
+    }
+
+    /// Whether the clause's first literal is left unset with the assumptions of the question before too. Then it is without
+    /// them, and what they give need not be made anew.
+    fn tell_above(
+        &self,
+        watching: &mut Watching,
+        assumptions: &[Lit],
+        clause: &[Lit],
+        last: u32,
+    ) -> Result<bool, AllocError>
+        requires standing { IsStandingIfMade self.now.clauses self.now.variables watching.old }
+        requires assumptions { All (λ l. l.variable ≤ self.now.variables) assumptions.now }
+        requires clause { IsClauseOver self.now.variables clause.now }
+        requires last { last ≤ length self.now.clauses }
+        ensures answer { IfOk result (λ answer. IsTrue answer
+            → LeavesFirstUnset (take last self.now.clauses) assumptions.now clause.now) }
+        ensures standing { IfOk result (λ _. IsStandingIfMade self.now.clauses self.now.variables watching.new) }
+    {
+        if !watching.may_rise(assumptions, last) {
+            return Ok(false);
+        }
+        let before = watching.count();
+        if !self.stand_above(watching, assumptions, last)? {
+            watching.note_above(before);
+            return Ok(false);
+        }
+        let answer = self.tell_clause(watching, clause, last)?;
+        watching.note_above(before);
+        Ok(answer)
+    }
+
+    /// Comes from what stands to what the assumptions above it and the first `last` clauses give; answers whether that is no
+    /// conflict.
+    fn stand_above(
+        &self,
+        watching: &mut Watching,
+        assumptions: &[Lit],
+        last: u32,
+    ) -> Result<bool, AllocError>
+        requires standing { IsStanding self.now.clauses self.now.variables watching.old }
+        requires taken { watching.old.taken ≤ last }
+        requires assumptions { All (λ l. l.variable ≤ self.now.variables) assumptions.now }
+        requires last { last ≤ length self.now.clauses }
+        ensures standing { IfOk result (λ _. IsStanding self.now.clauses self.now.variables watching.new) }
+        ensures taken { IfOk result (λ fine. IsTrue fine → watching.new.taken ≡ last) }
+        ensures above { IfOk result (λ fine. IsTrue fine → ContainsAll watching.new.literals.literals assumptions.now) }
+    {
+        if !self.take_more(watching, last)? {
+            return Ok(false);
+        }
+        if watching.literals.are_true(assumptions) {
+            return Ok(true);
+        }
+        self.stand_on(watching, assumptions, last)
     }
 
     /// Makes what is kept, where there is none, or more clauses are taken in alone.
@@ -104,7 +163,9 @@ impl Log {
             return Ok(false);
         }
         watching.set_ground();
-        self.stand_on(watching, assumptions, last)
+        let fine = self.stand_on(watching, assumptions, last)?;
+        watching.note_alone();
+        Ok(fine)
     }
 
     /// Takes in the clauses up to `last`; answers whether that ends without a conflict. After a conflict the assumptions are
@@ -132,7 +193,7 @@ impl Log {
         Ok(true)
     }
 
-    /// Comes from the ground to what the assumptions give too.
+    /// Comes from what stands to what more assumptions give too.
     fn stand_on(
         &self,
         watching: &mut Watching,
@@ -140,10 +201,10 @@ impl Log {
         last: u32,
     ) -> Result<bool, AllocError>
         requires standing { IsStanding self.now.clauses self.now.variables watching.old }
-        requires none { watching.old.assumptions ≡ [] }
         requires taken { watching.old.taken ≡ last }
         requires assumptions { All (λ l. l.variable ≤ self.now.variables) assumptions.now }
-        ensures { IfOk result (λ fine. StandsFor self.now.clauses self.now.variables assumptions.now last watching.new fine) }
+        ensures { IfOk result (λ fine. StandsFor self.now.clauses self.now.variables (watching.old.assumptions ++ assumptions.now) last
+            watching.new fine) }
     {
         let done = watching.literals.len();
         if !watching.literals.assume_all(assumptions) {
@@ -180,6 +241,7 @@ impl Log {
     {
         let len = watching.literals.len();
         let answer = self.try_clause(&mut watching.watches, &mut watching.literals, clause, last)?;
+        watching.peak = watching.literals.len();
         watching.literals.truncate(len);
         Ok(answer)
     }

@@ -4,6 +4,7 @@ ghost use Rattle.std.specs.Prelude.{◌≡◌, ◌≢◌, ◌<◌, ◌≤◌, �
 ghost use Rattle.dist_clause.specs.Formula.{Literal, negation, IsClauseOver};
 ghost use Rattle.dist_derive.specs.Propagation.{IsFalse, IsUnset, AllFalse, OthersFalse, IsConsistent};
 ghost use Rattle.dist_derive.specs.AssumePrivate.{Assumes, AssumesAll};
+ghost use Rattle.dist_derive.specs.ContainmentPrivate.{ContainsAll};
 
 use crate::variable_set::VariableSet;
 use dist_base::MAX_VARIABLES;
@@ -90,6 +91,19 @@ impl TrueLiterals {
         ensures { IsTrue result → Contains self.now.literals literal }
     {
         matches!(self.status(literal), Truth::True)
+    }
+
+    /// Whether all literals are true.
+    pub(crate) fn are_true(&self, literals: &[Lit]) -> bool
+        requires { All (λ l. l.variable ≤ self.now.variables) literals.now }
+        ensures { IsTrue result → ContainsAll self.now.literals literals.now }
+    {
+        for literal in literals {
+            if !self.is_true(*literal) {
+                return false;
+            }
+        }
+        true
     }
 
     /// Whether a literal is false.

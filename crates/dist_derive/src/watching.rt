@@ -27,6 +27,11 @@ pub(crate) struct Watching {
     pub(crate) assumptions: Vec<Lit>,
     /// So many clauses are taken in under the assumptions.
     pub(crate) taken: u32,
+    /// How many literals there were when some were last let go.
+    pub(crate) peak: usize,
+    /// How many literals were made by assumptions taken alone, and how many above those of other questions.
+    alone: u64,
+    above: u64,
 }
 
 impl Model for Watching {
@@ -58,6 +63,9 @@ impl Watching {
             grounded: 0,
             assumptions: Vec::new(alloc),
             taken: 0,
+            peak: 0,
+            alone: 0,
+            above: 0,
         }
     }
 
@@ -76,6 +84,9 @@ impl Watching {
             grounded: 0,
             assumptions: Vec::new(alloc),
             taken: 0,
+            peak: 0,
+            alone: 0,
+            above: 0,
         })
     }
 
@@ -101,6 +112,40 @@ impl Watching {
         self.assumptions.as_slice() == assumptions
     }
 
+    /// Whether it stands under other assumptions, with no more than the first `last` clauses, and going on above such ones has
+    /// not cost more so far than taking assumptions alone.
+    pub(crate) fn may_rise(&self, assumptions: &[Lit], last: u32) -> bool
+        ensures made { IsTrue result → IsTrue self.now.is_made }
+        ensures taken { IsTrue result → self.now.taken ≤ last }
+    {
+        self.is_made
+            && self.taken <= last
+            && !self.assumptions.is_empty()
+            && !self.is_under(assumptions)
+            && self.above <= self.alone
+    }
+
+    /// How many literals are true.
+    pub(crate) fn count(&self) -> usize {
+        self.literals.len()
+    }
+
+    /// Notes what the assumptions gave, where they were taken alone.
+    pub(crate) fn note_alone(&mut self)
+        ensures { self.new ≡ self.old }
+    {
+        let count = self.literals.len().saturating_sub(self.ground);
+        self.alone = self.alone.saturating_add(count as u64);
+    }
+
+    /// Notes what came above so many literals, where some were let go since.
+    pub(crate) fn note_above(&mut self, before: usize)
+        ensures { self.new ≡ self.old }
+    {
+        let count = self.peak.saturating_sub(before);
+        self.above = self.above.saturating_add(count as u64);
+    }
+
     /// Lets the assumptions go.
     pub(crate) fn to_ground(&mut self)
         ensures standing { (clauses : List (List Literal)) (variables : ℕ) → IsGrounded clauses variables self.old
@@ -109,6 +154,8 @@ impl Watching {
         ensures taken { self.new.taken ≡ self.old.grounded }
         ensures none { self.new.assumptions ≡ [] }
     {
+        let peak = self.literals.len();
+        self.peak = peak;
         self.literals.truncate(self.ground);
         self.ground = self.literals.len();
         self.assumptions.clear();

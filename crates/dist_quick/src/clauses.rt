@@ -1,6 +1,5 @@
 //! What clauses are under the literals of a trail.
 
-use crate::shunned::Shunned;
 use crate::trail::{Trail, Truth};
 use dist_clause::Lit;
 use dist_derive::Log;
@@ -60,66 +59,6 @@ pub(crate) fn look_at(log: &Log, trail: &Trail, number: u32) -> Look {
         }
     }
     look
-}
-
-/// How early an alternative is tried: the higher its variable the earlier, and those that are shunned behind all others.
-fn rank(literal: Lit, shunned: &Shunned<'_>) -> u64 {
-    let variable = u64::from(literal.variable());
-    if shunned.has(literal.variable()) {
-        variable
-    } else {
-        variable | 1 << 32
-    }
-}
-
-/// So many alternatives of a long clause are looked at for one that is not shunned.
-const ALTERNATIVES: usize = 32;
-
-/// The alternative of a long clause that is tried first: the last unset literal that is not shunned, where it is among the last
-/// ones, or else the last unset literal.
-pub(crate) fn last_unset(
-    log: &Log,
-    trail: &Trail,
-    number: u32,
-    shunned: &Shunned<'_>,
-) -> Option<Lit> {
-    let mut last = None;
-    let mut left = ALTERNATIVES;
-    for literal in clause_of(log, number).iter().rev() {
-        if trail.truth(*literal) != Truth::Unset {
-            continue;
-        }
-        if !shunned.has(literal.variable()) {
-            return Some(*literal);
-        }
-        last = last.or(Some(*literal));
-        left = left.saturating_sub(1);
-        if left == 0 {
-            break;
-        }
-    }
-    last
-}
-
-/// The alternative that is tried first, of those that are unset.
-pub(crate) fn first_unset(
-    log: &Log,
-    trail: &Trail,
-    number: u32,
-    shunned: &Shunned<'_>,
-) -> Option<Lit> {
-    let mut best = None;
-    let mut highest = 0;
-    for literal in clause_of(log, number) {
-        if trail.truth(*literal) == Truth::Unset {
-            let rank = rank(*literal, shunned);
-            if rank > highest {
-                highest = rank;
-                best = Some(*literal);
-            }
-        }
-    }
-    best
 }
 
 /// Whether a clause is looked at before any assumption: it has fewer than two literals, or none that is negative.

@@ -1,7 +1,7 @@
 //! The way down from the assumptions: alternatives are decided one after another.
 
 use crate::backward::Way;
-use crate::clauses::Look;
+use crate::clauses::{Look, clause_of};
 use crate::forward::{Mark, State};
 use crate::kept::Kept;
 use crate::needs::Need;
@@ -11,8 +11,46 @@ use dist_clause::Lit;
 use dist_derive::Log;
 use std::alloc::{AllocError, Global};
 
-/// How many decisions of a question may fail before it is given up.
-const TRIES: u32 = 100;
+/// How many decisions of a question may fail before it is given up, beside those on long clauses.
+const TRIES: usize = 100;
+
+/// How many decisions may still fail.
+#[derive(Clone, Copy, Debug)]
+struct Tries {
+    short: usize,
+    /// Those on long clauses: each has as many as it has alternatives.
+    long: usize,
+    /// The open clauses before this place have given theirs.
+    given: usize,
+}
+
+impl Tries {
+    /// With those of a long clause of so many literals at a place.
+    fn with(self, place: usize, length: usize) -> Tries {
+        if place < self.given {
+            return self;
+        }
+        Tries {
+            long: self.long.saturating_add(length),
+            given: place.saturating_add(1),
+            ..self
+        }
+    }
+
+    /// Without the one that failed; none where no more may fail.
+    fn without(self, is_long: bool) -> Option<Tries> {
+        if is_long {
+            return Some(Tries {
+                long: self.long.checked_sub(1)?,
+                ..self
+            });
+        }
+        Some(Tries {
+            short: self.short.checked_sub(1)?,
+            ..self
+        })
+    }
+}
 
 /// A decision, and what was there before it.
 #[derive(Clone, Copy, Debug)]
@@ -20,7 +58,13 @@ struct Level {
     start: Mark,
     /// The place of the open clause whose alternative it is.
     open: usize,
+    is_long: bool,
     decision: Lit,
+}
+
+/// A decision that failed, if it was on a long clause.
+fn failed_on(is_long: bool, decision: Lit) -> Option<Lit> {
+    if is_long { Some(decision) } else { None }
 }
 
 /// Room for decisions, and for the way back from a conflict.
@@ -99,23 +143,33 @@ impl Descent {
         path: &[Need],
         shunned: &Shunned<'_>,
     ) -> Result<Guess, AllocError> {
-        let mut tries = TRIES;
+        let mut tries = Tries {
+            short: TRIES,
+            long: 0,
+            given: 0,
+        };
         let mut place = 0;
+        let mut failed = None;
         let mut conflict = None;
         for _ in 0..u32::MAX {
             if let Some(number) = conflict {
                 let Some(level) = self.levels.pop() else {
                     return self.refute(log, state, path, number);
                 };
-                if tries == 0 {
+                let Some(left) = tries.without(level.is_long) else {
                     return Ok(Guess::Nothing);
-                }
-                tries -= 1;
+                };
+                tries = left;
                 place = level.open;
+                failed = failed_on(level.is_long, level.decision);
                 conflict = self.take_back(log, state, level, number)?;
             } else if let Some(number) = state.open_clause(place) {
-                conflict = self.choose(log, state, place, number, shunned)?;
+                if state.is_long(place) {
+                    tries = tries.with(place, clause_of(log, number).len());
+                }
+                conflict = self.see_to(log, state, place, number, failed, shunned)?;
                 place = place.saturating_add(1);
+                failed = None;
             } else {
                 return Ok(Guess::Model);
             }
@@ -140,6 +194,35 @@ impl Descent {
         state.propagate(log)
     }
 
+    /// Sees to an open clause: where it is long and an alternative of it failed, the next one is decided.
+    fn see_to(
+        &mut self,
+        log: &Log,
+        state: &mut State,
+        open: usize,
+        number: u32,
+        failed: Option<Lit>,
+        shunned: &Shunned<'_>,
+    ) -> Result<Option<u32>, AllocError> {
+        if let Some(literal) = failed
+            && let Some(decision) = state.next_choice(log, number, literal, shunned)
+        {
+            self.decide(state, open, decision)?;
+            return state.propagate(log);
+        }
+        self.choose(log, state, open, number, shunned)
+    }
+
+    fn decide(&mut self, state: &mut State, open: usize, decision: Lit) -> Result<(), AllocError> {
+        self.levels.push(Level {
+            start: state.mark(),
+            open,
+            is_long: state.is_long(open),
+            decision,
+        })?;
+        state.trail.set(decision, 0)
+    }
+
     /// Sees to an open clause: where it is not true yet, its only alternative becomes true, or else the first one is decided.
     fn choose(
         &mut self,
@@ -155,12 +238,7 @@ impl Descent {
             Look::Unit(literal) => state.trail.set(literal, number)?,
             Look::Open => {
                 if let Some(decision) = state.choice(log, open, number, shunned) {
-                    self.levels.push(Level {
-                        start: state.mark(),
-                        open,
-                        decision,
-                    })?;
-                    state.trail.set(decision, 0)?;
+                    self.decide(state, open, decision)?;
                 }
             }
         }

@@ -1,7 +1,9 @@
 //! What follows from the true literals, and which alternatives are open.
 
-use crate::clauses::{Look, clause_of, first_unset, last_unset, look_at};
+use crate::choice::{first_unset, last_unset};
+use crate::clauses::{Look, clause_of, look_at};
 use crate::hub::{Heaviest, NONE};
+use crate::long::place_of;
 use crate::open::Open;
 use crate::shunned::Shunned;
 use crate::trail::Trail;
@@ -141,10 +143,29 @@ impl State {
         shunned: &Shunned<'_>,
     ) -> Option<Lit> {
         if self.open.is_long(place) {
-            last_unset(log, &self.trail, number, shunned)
+            last_unset(clause_of(log, number), &self.trail, shunned)
         } else {
-            first_unset(log, &self.trail, number, shunned)
+            first_unset(log, &self.trail, &self.open, number, shunned)
         }
+    }
+
+    /// Whether the open clause at a place is long, with its alternatives in order.
+    pub(crate) fn is_long(&self, place: usize) -> bool {
+        self.open.is_long(place)
+    }
+
+    /// The alternative of a long open clause that is tried where another one failed, of those before it. So all of them cost no
+    /// more than the clause's length.
+    pub(crate) fn next_choice(
+        &self,
+        log: &Log,
+        number: u32,
+        failed: Lit,
+        shunned: &Shunned<'_>,
+    ) -> Option<Lit> {
+        let clause = clause_of(log, number);
+        let before = clause.get(..place_of(clause, failed.variable()))?;
+        last_unset(before, &self.trail, shunned)
     }
 
     /// Looks at the open clauses that came, and again at those of which an alternative became false, until nothing follows;

@@ -12,6 +12,7 @@
 #![tactic(auto)]
 
 mod backward;
+mod choice;
 mod clauses;
 mod descent;
 mod forward;

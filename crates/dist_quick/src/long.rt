@@ -36,6 +36,13 @@ fn rises(place: usize, literal: Lit, last: u32) -> bool {
 
 /// Whether a variable is an alternative of a long clause.
 pub(crate) fn has_alternative(clause: &[Lit], variable: u32) -> bool {
+    clause
+        .get(place_of(clause, variable))
+        .is_some_and(|l| l.positive() && l.variable() == variable)
+}
+
+/// How many literals of a long clause stand before a variable's place in it.
+pub(crate) fn place_of(clause: &[Lit], variable: u32) -> usize {
     let mut low = 0;
     let mut high = clause.len();
     for _ in 0..HALVES {
@@ -50,7 +57,5 @@ pub(crate) fn has_alternative(clause: &[Lit], variable: u32) -> bool {
             _ => high = middle,
         }
     }
-    clause
-        .get(low)
-        .is_some_and(|l| l.positive() && l.variable() == variable)
+    low
 }

@@ -28,6 +28,9 @@ pub(crate) struct Use {
     pub(crate) next: u32,
 }
 
+/// So many uses of a variable are counted.
+const COUNTED: u32 = 16;
+
 /// Open clauses, in the order in which they came. Those up to a place are entered: their variables lead to them. A use is taken
 /// back with its clause, so what a clause costs is its length. The two literals of a clause that are looked at go round in it, so
 /// that all looks at it on one way down cost its length too.
@@ -177,6 +180,20 @@ impl Open {
             return None;
         }
         self.uses.get(place as usize - 1).copied()
+    }
+
+    /// Of how many open clauses a variable is an alternative, as far as these are entered and counted.
+    pub(crate) fn count_uses(&self, variable: u32) -> u32 {
+        let mut place = self.latest(variable);
+        let mut count = 0u32;
+        for _ in 0..COUNTED {
+            let Some(entry) = self.use_at(place) else {
+                break;
+            };
+            place = entry.next;
+            count = count.saturating_add(1);
+        }
+        count
     }
 
     /// Leaves so many clauses.

@@ -1,6 +1,6 @@
 //! The searches that guess, and how their guesses become answers.
 
-ghost use Rattle.std.specs.Prelude.{◌≡◌, ◌↔◌, ℕ, Contains, IfOk, IfSome, length};
+ghost use Rattle.std.specs.Prelude.{◌≡◌, ◌↔◌, ◌+◌, ℕ, Contains, IfNone, IfOk, IfSome, length, min};
 ghost use Rattle.dist_clause.specs.Formula.{IsClauseOver};
 ghost use Rattle.dist_derive.specs.ClauseLog.{inputs_of};
 ghost use Rattle.dist_derive.specs.Cone.{InCone};
@@ -82,14 +82,14 @@ impl Guesses {
                 let model = self
                     .tests
                     .model(alloc, log, assumptions, self.quick.trues())?;
-                self.count_failure(model.is_none());
+                let model = counted(&mut self.failed, model);
                 Ok(model.map(Answer::Found))
             }
             Guess::Refutation => {
                 let hints = self
                     .tests
                     .refutation(alloc, log, assumptions, self.quick.hints())?;
-                self.count_failure(hints.is_none());
+                let hints = counted(&mut self.failed, hints);
                 Ok(hints.map(Answer::Refuted))
             }
             Guess::Nothing => Ok(None),
@@ -143,16 +143,9 @@ impl Guesses {
         }
         let turn = self.watched.go()?;
         let end = self.tested(alloc, log, cone, assumptions, turn)?;
+        let end = counted(&mut self.failed, end);
         self.stands = end.is_some();
-        self.count_failure(end.is_none());
         Ok(end)
-    }
-
-    /// Counts a guess, if it failed its test.
-    fn count_failure(&mut self, failed: bool)
-        ensures { self.new ≡ self.old }
-    {
-        self.failed = self.failed.saturating_add(u64::from(failed));
     }
 
     /// How many guesses of the two searches failed their tests.
@@ -214,4 +207,16 @@ impl Guesses {
         self.guessing = guessing;
         self.stands = false;
     }
+}
+
+/// What a guess comes to by its test. One that comes to nothing has failed, and is counted.
+fn counted<T>(failed: &mut u64, tested: Option<T>) -> Option<T>
+    ensures same { result ≡ tested }
+    ensures passes { IfSome tested (λ _. failed.new ≡ failed.old) }
+    ensures fails { IfNone tested (failed.new ≡ min (failed.old + 1) u64.MAX) }
+{
+    if tested.is_none() {
+        *failed = failed.saturating_add(1);
+    }
+    tested
 }

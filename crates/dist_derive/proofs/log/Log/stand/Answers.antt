@@ -1,6 +1,6 @@
-use Rattle.std.proofs.Common.{List, [], Bool, subst}
+use Rattle.std.proofs.Common.{List, [], ◌++◌, Bool, sym, subst}
 use Rattle.dist_clause.specs.Formula.{Literal}
-use Rattle.dist_derive.specs.WatchesPrivate.{StandsFor}
+use Rattle.dist_derive.specs.WatchesPrivate.{WatchingState, StandsFor}
 use Rattle.dist_derive.proofs.StandingLemmas.{refused_alone}
 use Rattle.dist_derive.proofs.log.Log.stand.Goals as goal
 
@@ -19,3 +19,11 @@ returns-then-not-branch c =
 
 pub stand_on-requires-clause-standing : goal.stand_on-requires-clause-standing
 stand_on-requires-clause-standing c = c.set_ground.ensures.standing c.args.self.now.clauses c.args.self.now.variables c.in_ok-take_more.ensures.standing
+
+pub returns : goal.returns
+returns c =
+    let log = c.args.self.now in
+    let assumed = c.args.assumptions.now in
+    let told = subst (λ (ls : List Literal). StandsFor log.clauses log.variables (ls ++ assumed) c.args.last c.stand_on.new.watching c.in_ok-fine.fine)
+    c.set_ground.ensures.none c.in_ok-fine.ensures in
+    subst (λ (w : WatchingState). StandsFor log.clauses log.variables assumed c.args.last w c.in_ok-fine.fine) (sym c.note_alone.ensures) told

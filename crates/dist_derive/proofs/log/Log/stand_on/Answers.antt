@@ -1,8 +1,8 @@
-use Rattle.std.proofs.Common.{◌≡◌, ◌≤◌, Bool, [], ◌++◌, false, true, take, refl, ap, sym, subst, ◌∙◌}
+use Rattle.std.proofs.Common.{◌≡◌, ◌≤◌, Bool, List, ◌++◌, false, true, take, refl, ap, sym, subst, ◌∙◌}
 use Rattle.std.specs.List.{All}
 use Rattle.dist_clause.specs.Formula.{Literal}
 use Rattle.dist_derive.specs.AssumePrivate.{AssumesAll}
-use Rattle.dist_derive.specs.WatchesPrivate.{WatchingState, AllGuarded, IsStanding}
+use Rattle.dist_derive.specs.WatchesPrivate.{WatchingState, AllGuarded, IsStanding, StandsFor}
 use Rattle.dist_derive.proofs.StandingLemmas.{assumed_guards, grounded_early, grounded_under, stands_under, stands_refuted_under, stands_refused}
 use Rattle.dist_derive.proofs.log.Log.stand_on.Goals as goal
 use Rattle.dist_derive.proofs.log.Log.stand_on.Goals.{After-len-done}
@@ -21,9 +21,6 @@ was c = record {
 
 stood : (c : After-len-done) → IsStanding c.args.self.now.clauses c.args.self.now.variables (was c)
 stood c = subst (λ (w : WatchingState). IsStanding c.args.self.now.clauses c.args.self.now.variables w) (sym c.watching.view_is) c.requires.standing
-
-none : (c : After-len-done) → (was c).assumptions ≡ []
-none c = ap (λ (w : WatchingState). w.assumptions) c.watching.view_is ∙ c.requires.none
 
 taken : (c : After-len-done) → (was c).taken ≡ c.args.last
 taken c = ap (λ (w : WatchingState). w.taken) c.watching.view_is ∙ c.requires.taken
@@ -44,10 +41,12 @@ returns-then-not-assume_all c =
     c.assume_all.ensures in
     let mid : WatchingState = record old { literals = c.assume_all.new.self } in
     let standing = c.to_ground.ensures.standing clauses n
-    (grounded_early clauses n last old mid (stood start) c.args.assumptions.now c.assume_all.new.self (none start) (taken start) false
+    (grounded_early clauses n last old mid (stood start) c.args.assumptions.now c.assume_all.new.self (taken start) false
     assumes refl refl refl refl) in
-    stands_refused clauses n last old c.to_ground.new.self (stood start) c.args.assumptions.now c.assume_all.new.self (none start) (taken start)
-    assumes standing
+    subst (λ (ls : List Literal). StandsFor clauses n (ls ++ c.args.assumptions.now) last c.to_ground.new.self false)
+    (ap (λ (w : WatchingState). w.assumptions) c.watching.view_is)
+    (stands_refused clauses n last old c.to_ground.new.self (stood start) c.args.assumptions.now c.assume_all.new.self (taken start)
+    assumes standing)
 
 pub advance-requires-clause-same_variables : goal.advance-requires-clause-same_variables
 advance-requires-clause-same_variables c =
@@ -86,10 +85,12 @@ returns-then-not-branch c =
     c.assume_all.ensures in
     let mid : WatchingState = record old { watches = c.advance.new.watches; literals = c.advance.new.literals } in
     let standing = c.to_ground-then-not-branch.ensures.standing clauses n
-    (grounded_under clauses n last old mid (stood start) c.args.assumptions.now c.assume_all.new.self (none start) (taken start) true assumes
+    (grounded_under clauses n last old mid (stood start) c.args.assumptions.now c.assume_all.new.self (taken start) true assumes
     c.in_ok-advance.ensures.advances refl refl) in
-    stands_refuted_under clauses n last old c.to_ground-then-not-branch.new.self (stood start) c.args.assumptions.now c.assume_all.new.self (none start)
-    (taken start) assumes (c.in_ok-advance.ensures.refuted c.if-not-branch.true) standing
+    subst (λ (ls : List Literal). StandsFor clauses n (ls ++ c.args.assumptions.now) last c.to_ground-then-not-branch.new.self false)
+    (ap (λ (w : WatchingState). w.assumptions) c.watching.view_is)
+    (stands_refuted_under clauses n last old c.to_ground-then-not-branch.new.self (stood start) c.args.assumptions.now c.assume_all.new.self
+    (taken start) assumes (c.in_ok-advance.ensures.refuted c.if-not-branch.true) standing)
 
 pub returns : goal.returns
 returns c =
@@ -105,6 +106,8 @@ returns c =
       literals = c.advance.new.literals;
       assumptions = c.extend_from_slice.new.self.items;
     } in
-    stands_under clauses n last old new (stood start) c.args.assumptions.now c.assume_all.new.self (none start) (taken start) assumes
+    subst (λ (ls : List Literal). StandsFor clauses n (ls ++ c.args.assumptions.now) last new true)
+    (ap (λ (w : WatchingState). w.assumptions) c.watching.view_is)
+    (stands_under clauses n last old new (stood start) c.args.assumptions.now c.assume_all.new.self (taken start) assumes
     c.in_ok-advance.ensures.advances (c.in_ok-advance.ensures.guarded c.if-not-branch.false) refl refl
-    (c.in_ok-extend_from_slice.ensures.items ∙ ap (λ ls. ls ++ c.args.assumptions.now) (none start)) (taken start)
+    c.in_ok-extend_from_slice.ensures.items (taken start))
