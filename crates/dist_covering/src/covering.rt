@@ -1,11 +1,14 @@
 //! Which pairs of a cluster and a class the latest installations cover. A pair is given by the variable that its cluster is at its class.
-ghost use Rattle.std.specs.Prelude.{◌≡◌, ◌+◌, ◌^◌, ◌<◌, ◌≤◌, [], not, All, IfOk, IfSome, IsTrue, OnOk, filter, length};
+ghost use Rattle.std.specs.Prelude.{◌≡◌, ◌+◌, ◌^◌, ◌<◌, ◌≤◌, [], not, true, All, IfOk, IfSome, IsTrue, OnOk, filter, length};
+ghost use Rattle.dist_clause.specs.Formula.{value_of};
+ghost use Rattle.dist_sweep.specs.Window.{kept_at};
 ghost use Rattle.dist_cert.specs.Form.{AreFromOne};
 ghost use Rattle.dist_cert.specs.Rising.{AreRising, is_among};
 ghost use Rattle.dist_space.specs.Space.{IsSpace};
 ghost use Rattle.dist_covering.specs.OpenPairs.{IsKept, IsTodayWith, Lasts, covered_by, used_by};
 ghost use Rattle.dist_covering.specs.Covering.{IsAdded};
 
+use crate::recent::{LATEST, Recent};
 use crate::used::{Used, pair_at, used_clusters};
 use circular_buffer::HeapCircularBuffer;
 use dist_cert::REACH;
@@ -22,6 +25,8 @@ pub struct Covering {
     pub(crate) space: Space,
     /// Clusters from 1, rising, for each installation that a claim may reach.
     uses: HeapCircularBuffer<Used>,
+    /// Which installations may have a package.
+    pub(crate) recent: Recent,
 }
 
 impl Model for Covering {
@@ -45,16 +50,41 @@ pub(crate) fn lasts(window: &Window, more: usize, number: u32) -> bool
     more < REACH && window.count() as usize + more < number as usize + REACH
 }
 
+/// Whether a number is that of a kept installation with a variable.
+pub(crate) fn is_with(window: &Window, number: u32, present: u32) -> bool
+    requires from_one { 1 ≤ present }
+    requires upto { present ≤ window.now.variables }
+    ensures kept { IsTrue result → IsKept window.now number }
+    ensures has { IsTrue result → value_of (kept_at window.now number) present ≡ true }
+    ensures low { IsTrue result → 1 ≤ number }
+{
+    number <= window.count()
+        && window.count() - number < window.len()
+        && window.has(number, present)
+}
+
 /// Whether a number is that of a kept installation of today with a variable.
 pub fn is_today(window: &Window, number: u32, present: u32) -> bool
     requires from_one { 1 ≤ present }
     requires upto { present ≤ window.now.variables }
     ensures { IsTrue result → IsTodayWith window.now present number }
 {
-    number <= window.count()
-        && window.count() - number < window.len()
-        && window.has(number, present)
-        && window.has(number, 1)
+    is_with(window, number, present) && window.has(number, 1)
+}
+
+/// Room for the latest installations, for so many packages.
+fn known_of(alloc: Global, packages: u32) -> Result<(HeapCircularBuffer<Used>, Recent), AllocError>
+    ensures none { IfOk result (λ known. known.0.items ≡ []) }
+    ensures capacity { IfOk result (λ known. known.0.capacity ≡ REACH) }
+{
+    let recent = Recent::new(alloc, packages.saturating_add(1))?;
+    match HeapCircularBuffer::with_capacity(alloc, REACH) {
+        Ok(uses) => Ok((uses, recent)),
+        Err(error) => {
+            drop(recent);
+            Err(error)
+        }
+    }
 }
 
 impl Covering {
@@ -62,8 +92,13 @@ impl Covering {
     pub fn new(alloc: Global, space: Space) -> Result<Covering, AllocError>
         ensures { IfOk result (λ covering. covering ≡ record { space = space; uses = [] }) }
     {
-        match HeapCircularBuffer::with_capacity(alloc, REACH) {
-            Ok(uses) => Ok(Covering { alloc, space, uses }),
+        match known_of(alloc, space.package_count()) {
+            Ok((uses, recent)) => Ok(Covering {
+                alloc,
+                space,
+                uses,
+                recent,
+            }),
             Err(error) => {
                 drop(space);
                 Err(error)
@@ -90,6 +125,8 @@ impl Covering {
         ensures space { self.new.space ≡ self.old.space }
     {
         let used = used_clusters(self.alloc, &self.space, &values)?;
+        self.recent
+            .note_all(&values, window.count().saturating_add(1));
         window.add(values)?;
         self.uses.push_back(used);
         Ok(())
@@ -156,7 +193,7 @@ impl Covering {
         Ok(left)
     }
 
-    /// An installation of today with a variable: the latest one that uses few clusters, or else the latest one.
+    /// An installation of today with a variable, of the latest ones: one that uses few clusters, or else any.
     pub fn today_in(&self, window: &Window, present: u32) -> Option<u32>
         requires variables { window.now.variables ≡ length self.now.space.meanings }
         requires from_one { 1 ≤ present }
@@ -164,8 +201,8 @@ impl Covering {
         ensures { IfSome result (IsTodayWith window.now present) }
     {
         let mut found = None;
-        for back in 0..window.len() {
-            let number = window.count() - back;
+        for back in 0..LATEST {
+            let number = self.recent.latest(present, back, true);
             if is_today(window, number, present) {
                 if self.used_by(window, number).len() <= REACH {
                     return Some(number);

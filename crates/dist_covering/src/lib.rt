@@ -9,6 +9,7 @@ mod covering;
 mod group;
 mod open_pairs;
 mod planning;
+mod recent;
 mod striking;
 mod used;
 

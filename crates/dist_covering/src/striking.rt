@@ -5,8 +5,9 @@ ghost use Rattle.dist_covering.specs.OpenPairs.{AreOpen, IsKept, IsPlan};
 ghost use Rattle.dist_covering.specs.Planning.{IsStruck};
 ghost use Rattle.dist_sweep.specs.Window.{kept_at};
 
-use crate::covering::{Covering, lasts};
+use crate::covering::{Covering, is_with, lasts};
 use crate::group::Group;
+use crate::recent::LATEST;
 use dist_sweep::Window;
 use std::alloc::AllocError;
 
@@ -50,7 +51,7 @@ impl Covering {
         Ok(false)
     }
 
-    /// Lets the installations with a variable strike pairs, the latest first, until none is left or many in a row struck none.
+    /// Lets the latest installations with a variable strike pairs, the latest first, until none is left or many in a row struck none.
     /// Those that did are told.
     pub(crate) fn strike(
         &self,
@@ -68,14 +69,16 @@ impl Covering {
     {
         let mut named = Vec::new(self.alloc);
         let mut vain = 0;
-        for back in 0..window.len() {
-            let number = window.count() - back;
+        let mut bound = window.count();
+        'known: for back in 0..LATEST {
+            let number = self.recent.latest(present, back, false);
             if ats.is_empty() || vain >= VAIN {
                 break;
             }
-            if number != today && window.has(number, present) {
+            if number != today && number <= bound && is_with(window, number, present) {
                 let struck = self.strike_by(window, number, &mut named, ats)?;
                 vain = vain_after(struck, vain);
+                bound = number - 1;
             }
         }
         Ok(named)

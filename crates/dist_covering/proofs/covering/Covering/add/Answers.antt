@@ -5,7 +5,10 @@ use Rattle.dist_cert.specs.Rising.{AreRising}
 use Rattle.dist_covering.proofs.covering.Covering.add.Goals as goal
 
 pub invariant_of-self : goal.invariant_of-self
-invariant_of-self c =
+invariant_of-self c = c.self.invariant
+
+pub invariant_of-self-2 : goal.invariant_of-self-2
+invariant_of-self-2 c =
     let before = c.self.inside.uses.items in
     let used = c.in_ok-used.used in
     let kept = c.self.invariant in
