@@ -1,15 +1,18 @@
 -- What a claim of kind outdated or challenged without a fault says is true.
-use Rattle.std.proofs.Common.{◌≡◌, ◌≢◌, ◌↔◌, ◌⊎◌, inl, inr, ⊎_elim, ℕ, ◌+◌, ◌-◌, Bool, true, false, List, [], ◌∷◌, ◌++◌, length, map, not, Some, refl}
+use Rattle.std.proofs.Common.{◌≡◌, ◌≢◌, ◌↔◌, ◌⊎◌, inl, inr, ⊎_elim, ℕ, ◌+◌, ◌-◌, ◌<◌, Bool, true, false, List, [], ◌∷◌, ◌++◌, length, map, not, Some, refl}
 use Rattle.std.proofs.Common.{sym, ap, subst, ◌∙◌, append_assoc, arith, slice_get}
-use Rattle.std.specs.List.{All, Contains}
-use Rattle.std.proofs.lemmas.Bool.{false≢true}
+use Rattle.std.specs.List.{All, Any, Contains}
+use Rattle.std.proofs.lemmas.Bool.{cases_eq, false≢true}
 use Rattle.std.proofs.lemmas.List.Elements.{All-append, All-nil, All-cons, All-head, All-tail, All-contains}
 use Rattle.std.proofs.lemmas.List.Elements.{Contains-append_left, Contains-append_right, Contains-append_cases}
+use Rattle.std.proofs.lemmas.List.{length-map}
 use Rattle.std.proofs.lemmas.Option.{slice_get_within}
-use Rattle.dist_base.specs.ListLaws.{all-contained, any-cases, here-at}
+use Rattle.dist_base.specs.ListLaws.{all-contained, any-cases, any-contained, any-there, at-has, found-at, here-at, place-of}
 use Rattle.dist_clause.specs.Formula.{Literal, negation, IsTrueLiteral, MakesTrue, IsModel, value_of}
 use Rattle.dist_cluster.specs.Partition.{IsIn}
-use Rattle.dist_classes.specs.ClassList.{IsOfClass}
+use Rattle.dist_cluster.specs.Relation.{AreClustered}
+use Rattle.dist_classes.specs.Answers.{member_of}
+use Rattle.dist_classes.specs.ClassList.{IsInOneClass, IsOfClass}
 use Rattle.dist_classes.specs.declared.class_value.Class.{Class}
 use Rattle.dist_repo.specs.Strong.{IsInstallable}
 use Rattle.dist_repo.specs.declared.package.Package.{Package}
@@ -18,6 +21,7 @@ use Rattle.dist_space.specs.VariableLaws.{variable-range}
 use Rattle.dist_space.specs.declared.meaning.Meaning.{Meaning}
 use Rattle.dist_space.specs.declared.meaning.Meaning.TheVariants.{Now, Present, At}
 use Rattle.dist_space_clauses.specs.SpaceClauses.{AreSpaceClauses}
+use Rattle.dist_future.specs.Future.{IsAboveCluster}
 use Rattle.dist_future.specs.Outdated.{Challenges, IsInstallableLater, IsOutdated}
 use Rattle.dist_future.specs.Pairs as pairs
 use Rattle.dist_future.specs.Pairs.{IsOfPair, TellOfPackage}
@@ -44,7 +48,7 @@ use Rattle.dist_subject.specs.Later.{later_matter}
 use Rattle.dist_subject.specs.MemberLaws.{value-among}
 use Rattle.dist_subject.specs.Present.{truth_of}
 use Rattle.dist_subject.specs.TruthLaws.{truth-length}
-use Rattle.dist_check.specs.Means.{IsPairBeside, SaysChallenged, SaysOutdated, TellsPairs}
+use Rattle.dist_check.specs.Means.{IsOfListed, IsPairBeside, SaysChallenged, SaysOutdated, TellsPairs}
 use Rattle.dist_judge.specs.LineLaws.{HaveForms}
 use Rattle.dist_check_state.specs.LinesAt.{AreRight}
 use Rattle.dist_check_state.specs.ToldLaws.{IsTold, stable, less-told, any-told, number-told, model-told}
@@ -67,6 +71,11 @@ pub record LaterLaws : Type 0 where
   pub covered : (s : SpaceView) (inputs : List (List Literal)) (members : List ℕ) (cluster class : ℕ) → IsSpace s → IsMeaning s (At cluster class)
       → rules.Covers (later_matter s inputs) (cluster + 1, class + 1) members
       ↔ pairs.Covers s (truth_of (length s.meanings) members) cluster class
+  pub clusters : (s : SpaceView) (cluster m n : ℕ) (p q : Package) → IsSpace s → IsIn s.clusters.members cluster m
+      → slice_get s.repository.packages m ≡ Some p → slice_get s.repository.packages n ≡ Some q
+      → IsIn s.clusters.members cluster n ↔ AreClustered (member_of p) (member_of q)
+  pub one_class : (s : SpaceView) (cluster m : ℕ) (q : Package) (version : List ℕ) → IsSpace s → IsIn s.clusters.members cluster m
+      → slice_get s.repository.packages m ≡ Some q → IsAboveCluster s.repository q version → IsInOneClass (cluster_classes s cluster) version
 
 -- Records without faults over the futures of a space, and the laws that tell what they mean.
 pub record AreProvenLater (s : SpaceView) (inputs : List (List Literal)) (h : Header) (steps : List CertRecord) : Type 0 where
@@ -369,12 +378,57 @@ module _ (s : SpaceView) (inputs : List (List Literal)) (h : Header) (steps : Li
           covered,
     )
 
+    -- the pair of a version that challenges
+    record HasPair (q : Package) (version : List ℕ) : Type 0 where
+      cluster : ℕ
+      class : ℕ
+      of : IsOfPair s cluster class q version
+      outside : ¬ IsIn s.clusters.members cluster k
+
+    its-pair : (q : Package) (version : List ℕ) → Challenges s.essential s.repository q version p → HasPair q version
+    its-pair q version challenges =
+        let own = place-of s.repository.packages q challenges.cluster in
+        let short : own.place < length s.repository.packages = slice_get_within s.repository.packages own.place q own.is in
+        let home = home-of own.place short in
+        let class = x.laws.one_class s home.0 own.place q version x.space home.1 own.is challenges.above in
+        record {
+          cluster = home.0;
+          class = class.number;
+          of = record { member = own.place; in_cluster = home.1; is = own.is; is_version = challenges.above.is_version; of_class = class.holds };
+          outside = λ here. challenges.outside ((x.laws.clusters s home.0 own.place k q p x.space home.1 own.is at).0 here);
+        }
+      where
+        home-of : (m : ℕ) → m < length s.repository.packages → (c : ℕ) × IsIn s.clusters.members c m
+        home-of m short =
+            let every = x.space.frame.clusters.partition.every m (omega (arith, short, length-map s.repository.packages member_of)) in
+            let found = found-at (λ (cluster : List ℕ). Contains cluster m) s.clusters.members every in
+            (found.place, at-has (λ (cluster : List ℕ). Contains cluster m) s.clusters.members found.place found.element found.is found.holds)
+
+    others : (q : Package) (version : List ℕ) → Challenges s.essential s.repository q version p
+        → IsOfListed s (pairs_from_zero by ++ pairs_from_zero undecided) q version
+    others q version challenges =
+        let pair = its-pair q version challenges in
+        let listed_pairs = pairs_from_zero by ++ pairs_from_zero undecided in
+        let IsIt : ℕ × ℕ → Type 0 = λ one. (pair.cluster ≡ one.0) × (pair.class ≡ one.1) in
+        let IsOf : ℕ × ℕ → Type 0 = λ one. IsOfPair s one.0 one.1 q version in
+        elim (any-told IsIt (λ one. both-told (cases_eq pair.cluster one.0) (cases_eq pair.class one.1)) listed_pairs) [
+          | inl any ↦ any-contained IsOf listed_pairs any.1 (any-there IsIt listed_pairs any)
+              (subst (λ (c : ℕ). IsOfPair s c any.1.1 q version) any.4.0 (subst (λ (j : ℕ). IsOfPair s pair.cluster j q version) any.4.1 pair.of))
+          | inr none ↦
+              let never : Contains listed_pairs (pair.cluster, pair.class) → ⊥ =
+              λ there. none (any-contained IsIt listed_pairs (pair.cluster, pair.class) there (refl, refl)) in
+              absurd (unlisted pair.cluster pair.class q version pair.of pair.outside
+              (λ there. never (Contains-append_left (pairs_from_zero by) (pairs_from_zero undecided) (pair.cluster, pair.class) there))
+              (λ there. never (Contains-append_right (pairs_from_zero by) (pairs_from_zero undecided) (pair.cluster, pair.class) there)) challenges)
+        ]
+
     pub tells-pairs : TellsPairs s k p (pairs_from_zero by) (pairs_from_zero undecided)
     tells-pairs = record {
       pairs = all-append (all-beside by keeps.3 (λ pair there. Contains-append_left by undecided pair there))
           (all-beside undecided keeps.4 (λ pair there. Contains-append_right by undecided pair there));
       listed = listed;
       unlisted = unlisted;
+      others = others;
     }
       where
         all-append : All (IsPairBeside s k) (pairs_from_zero by) → All (IsPairBeside s k) (pairs_from_zero undecided)

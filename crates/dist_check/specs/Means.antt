@@ -1,6 +1,6 @@
 -- What the claims of a certificate say, in terms of healthy installations and futures. Pairs of a cluster and a class
 -- are numbered as in the space of the futures.
-use Rattle.std.specs.Prelude.{◌≡◌, ◌≢◌, ℕ, Bool, List, ◌++◌, All, Contains, Some, length, slice_get}
+use Rattle.std.specs.Prelude.{◌≡◌, ◌≢◌, ℕ, Bool, List, ◌++◌, All, Any, Contains, Some, length, slice_get}
 use Rattle.dist_cluster.specs.Partition.{IsIn}
 use Rattle.dist_repo.specs.Order.{IsLatestOf}
 use Rattle.dist_repo.specs.PackageList.{PackageList}
@@ -63,8 +63,12 @@ pub record MeansOutdated (essential : Bool) (r : PackageList) (made : List Claim
 abbrev pub IsPairBeside : SpaceView → ℕ → ℕ × ℕ → Type 0
 IsPairBeside s number pair = IsMeaning s (At pair.0 pair.1) × (¬ IsIn s.clusters.members pair.0 number)
 
+-- q is a package of the cluster of some listed pair, and the version is one of that pair's class
+abbrev pub IsOfListed : SpaceView → List (ℕ × ℕ) → (q : Package) → (version : List ℕ) → Type 0
+IsOfListed s listed q version = Any (λ pair. IsOfPair s pair.0 pair.1 q version) listed
+
 -- Of each class of a cluster that has not got package p: each version of it challenges p where the pair is listed, and
--- none does where it is in neither list.
+-- none does where it is in neither list. What challenges p at all is of a class that is listed or undecided.
 pub record TellsPairs (s : SpaceView) (number : ℕ) (p : Package) (by undecided : List (ℕ × ℕ)) : Type 0 where
   pub pairs : All (IsPairBeside s number) (by ++ undecided)
   pub listed : (cluster class : ℕ) (q : Package) (version : List ℕ) → IsOfPair s cluster class q version
@@ -72,6 +76,8 @@ pub record TellsPairs (s : SpaceView) (number : ℕ) (p : Package) (by undecided
   pub unlisted : (cluster class : ℕ) (q : Package) (version : List ℕ) → IsOfPair s cluster class q version
       → (¬ IsIn s.clusters.members cluster number) → (¬ Contains by (cluster, class))
       → (¬ Contains undecided (cluster, class)) → ¬ Challenges s.essential s.repository q version p
+  pub others : (q : Package) (version : List ℕ) → Challenges s.essential s.repository q version p
+      → IsOfListed s (by ++ undecided) q version
 
 -- The claim on package p says: it is not installable; or it is installable, and which versions challenge it; or
 -- nothing.

@@ -3,7 +3,11 @@ use Rattle.std.specs.Prelude.{◌≡◌, ℕ, zero, suc, false, List, [], ◌∷
 use Rattle.std.specs.Prelude.{refl, slice_get}
 use Rattle.std.proofs.Common.{◌≢◌, ◌∙◌, ap, arith, inl, lit<, subst, sym}
 use Rattle.std.proofs.lemmas.List.Elements.{All-cons, All-nil}
+use Rattle.dist_version.specs.Between.{without_rebuild_text}
 use Rattle.dist_cluster.specs.Partition.{IsIn}
+use Rattle.dist_cluster.specs.Relation.{AreClustered}
+use Rattle.dist_classes.specs.Answers.{member_of}
+use Rattle.dist_classes.specs.VersionOrderLaws.{equal-itself}
 use Rattle.dist_repo.specs.Conflict.{AreInConflict}
 use Rattle.dist_repo.specs.Healthy.{IsMet}
 use Rattle.dist_repo.specs.PackageList.{PackageList}
@@ -116,6 +120,13 @@ none_challenges = record { one_each = refl; each = λ number q claim is claimed.
         here zero is in_it = in_it
         here (suc member) is in_it = cc
 
+    itself : AreClustered (member_of libx) (member_of libx)
+    itself = record {
+      source = refl;
+      source_version = equal-itself (codes "1");
+      version = equal-itself (without_rebuild_text (codes "1"));
+    }
+
     says : SaysChallenged space 0 libx (Challenged [] [])
     says = (
       record { members = libx ∷ []; healthy = healthy; holds = (0, lit< tt, refl) },
@@ -124,6 +135,8 @@ none_challenges = record { one_each = refl; each = λ number q claim is claimed.
         listed = λ cluster class q version pair there. absurd (omega (arith, there.1));
         unlisted = λ cluster class q version pair outside not_listed not_undecided challenge.
             outside (beside cluster class q version pair);
+        others = λ q version challenges. absurd (challenges.outside
+            (subst (λ (x : Package). AreClustered (member_of x) (member_of libx)) (sym (only q challenges.cluster)) itself));
       },
     )
 

@@ -20,7 +20,9 @@ ghost use Rattle.dist_check.specs.Means.{Means};
 
 use dist_cert::forms_are_clear;
 use dist_derive::{lines_keep_models, new_lines_are_few};
-use dist_future::{models_stand_for_futures, models_tell_of_packages};
+use dist_future::{
+    clusters_and_classes_are_numbered, models_stand_for_futures, models_tell_of_packages,
+};
 use dist_now::models_are_installations;
 use dist_space::packages_come_first;
 use dist_subject::{
@@ -39,6 +41,7 @@ pub fn accepted_claims_hold()
     packages_come_first();
     models_stand_for_futures();
     models_tell_of_packages();
+    clusters_and_classes_are_numbered();
     pairs_are_of_the_space();
 }
 

@@ -1,5 +1,5 @@
 -- Clusters that have moved in a future, and clusters that are at a class in a model.
-use Rattle.std.proofs.Common.{◌≡◌, ℕ, ◌<◌, Bool, List, [], Option, Some, None, length, get_or, refl, sym, ap, subst, ◌∙◌, inl, inr, slice_get}
+use Rattle.std.proofs.Common.{◌≡◌, ℕ, ◌<◌, Bool, true, List, [], Option, Some, None, length, get_or, refl, sym, ap, subst, ◌∙◌, inl, inr, slice_get}
 use Rattle.std.specs.Prelude.{Any, Contains, slice_index}
 use Rattle.std.proofs.lemmas.Option.{slice_get-get_or, slice_get_within}
 use Rattle.dist_base.specs.ListLaws.{any-contained, any-there, at-has, contains-at, element-at, element-is, has-at, some-element}
@@ -10,7 +10,7 @@ use Rattle.dist_repo.specs.DecidedLaws.{IsDecided, any-decided, at-decided, both
 use Rattle.dist_repo.specs.PackageList.{IsPackageAnd}
 use Rattle.dist_repo.specs.declared.package.Package.{Package}
 use Rattle.dist_future.specs.Future.{IsFuture}
-use Rattle.dist_future.specs.Moved.{HasModelFor, IsAtClass, IsMoved, IsReplaced, TellOfMoves}
+use Rattle.dist_future.specs.Moved.{AreHeld, HasModelFor, IsAtClass, IsMoved, IsReplaced, TellOfMoves}
 use Rattle.dist_future.specs.Outdated.{IsInstallationOf}
 use Rattle.dist_future.specs.SpaceLaws.{examples_of, future_under, holds_under}
 use Rattle.dist_future.specs.Stands.{class_chosen, moved_package, new_version}
@@ -185,11 +185,27 @@ module _ (laws : ClassLaws) (s : SpaceView) (space : IsSpace s) where
               (some.0, at.0, at.1)
         ]
 
+    held-at : (c k : ℕ) → k < length (cluster_classes s c) → holds_under s values (At c k) ≡ true → AreHeld s (future_under s values) c (examples_of s c k)
+    held-at c k short at m q is_in is =
+        let holds = holds_under s values in
+        let version = examples_of s in
+        let met = met-from-model s values clauses are model in
+        let same : slice_index s.cluster_of m ≡ c = placed-in s space.frame c m is_in in
+        let chosen : class_chosen s holds (slice_index s.cluster_of m) ≡ Some k =
+        ap (class_chosen s holds) same ∙ chosen-is laws s space holds version space.frame.examples met.future c k short at in
+        let n = new_version s holds version m k q in
+        let new : Contains (future_under s values) n =
+        subst (λ (x : Package). Contains (future_under s values) x) (ap (moved_package s holds version m q) chosen)
+        (in-future laws s space holds version space.frame.examples met.future m q is) in
+        any-contained (λ (x : Package). (x.name ≡ q.name) × (x.version ≡ examples_of s c k)) (future_under s values) n new
+        (refl, ap (λ (x : ℕ). examples_of s x k) same)
+
   pub tell-of-moves : (clauses : List (List Literal)) → AreSpaceClauses s clauses → TellOfMoves s clauses
   tell-of-moves clauses are = record {
     there = λ future members is_future healthy. model-for future is_future members healthy clauses are;
     member = λ values model n p is holds.
         let met = met-from-model s values clauses are model in
         old-member laws s space (holds_under s values) (examples_of s) space.frame.examples met.future n p is holds;
+    at_class = λ values model c k short at. held-at clauses are values model c k short at;
     exact = λ values model c short. (moved-at clauses are values model c, at-moved clauses are values model c short);
   }

@@ -29,7 +29,7 @@ pub fn each_model_is_a_future()
 }
 
 /// Each healthy installation of a future has a model in which no cluster is at a class but those that have moved there, and in the
-/// future that a model stands for exactly the clusters at a class have moved.
+/// future that a model stands for exactly the clusters at a class have moved, each to the example of its class.
 pub fn models_tell_of_moves()
     ensures { (s : SpaceView) (clauses : List (List Literal)) → IsSpace s → AreSpaceClauses s clauses → TellOfMoves s clauses }
 {

@@ -12,5 +12,7 @@ returns c = accepted-mean c.forms_are_clear.ensures (record {
     tell = c.models_tell_of_packages.ensures;
     pairs_are = c.pairs_are_of_the_space.ensures.pairs;
     covered = c.pairs_are_of_the_space.ensures.covered;
+    clusters = c.clusters_and_classes_are_numbered.ensures.clusters;
+    one_class = c.clusters_and_classes_are_numbered.ensures.one_class;
   };
 })
