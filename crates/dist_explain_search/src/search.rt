@@ -6,6 +6,7 @@ ghost use Rattle.dist_inquiry.specs.AnswerText.{NoteMore};
 ghost use Rattle.dist_inquiry.specs.Asking.{AskStops};
 ghost use Rattle.dist_explain_search.specs.SearchPrivate.{AreNumbers, FitsAsked, Goes, GoesNot, HasJust, IsAnsweredAt, IsSmaller, Marks, explain_noting, others_of, question_of};
 
+use crate::costs::shortest;
 use crate::hinted::core_of;
 use crate::questions::{add, all_but, all_numbers, is_open, joined, question_of};
 use dist_explain::{Asked, Explaining, Notes, marked_relations_are_answered};
@@ -95,6 +96,37 @@ impl<'a> ExplainSearch<'a> {
             hints,
         )?;
         if refuted { Ok(core) } else { Ok(numbers) }
+    }
+
+    /// The same of all relations, by the hints of the shortest refutation where one is found, or else by those of the answer.
+    fn find_core<D: Desk>(
+        &mut self,
+        inquirer: &mut Inquirer,
+        desk: &mut D,
+        numbers: Vec<u32>,
+        hints: &[u32],
+    ) -> Result<Vec<u32>, WorkError>
+        requires writing { IsWriting (D.view desk.old).mode }
+        requires fits { FitsAsked self.old.asked inquirer.old.log.variables }
+        requires numbers { AreNumbers self.old.asked numbers.items }
+        ensures ok { IfOk result (λ core. Goes self.old.asked (HasJust self.old.asked numbers.items) (Marks self.old.asked core.items [])
+            (D.view desk.old) (D.view desk.new) inquirer.old inquirer.new self.old.notes self.new.notes) }
+        ensures err { IfErr result (GoesNot self.old.asked (HasJust self.old.asked numbers.items) (D.view desk.old) (D.view desk.new)
+            inquirer.old self.old.notes) }
+        ensures core { IfOk result (λ core. IsSmaller self.old.asked numbers.items core.items) }
+        ensures asked { self.new.asked ≡ self.old.asked }
+        ensures variables { inquirer.new.log.variables ≡ inquirer.old.log.variables }
+        ensures limit { inquirer.new.limit ≡ inquirer.old.limit }
+        ensures grows { Grows (D.view desk.old) (D.view desk.new) }
+    {
+        file_grows();
+        let short = shortest(self.alloc, inquirer, &self.asked)?;
+        let least = if short.is_empty() {
+            hints
+        } else {
+            short.as_slice()
+        };
+        self.narrow(inquirer, desk, numbers, least)
     }
 
     /// Asks for all relations of the core but one. None is answered where that is not refuted, and else the new core.
@@ -202,7 +234,7 @@ impl<'a> Inquiring for ExplainSearch<'a> {
         let all = all_numbers(self.alloc, self.asked.relations)?;
         match self.ask(inquirer, desk, &all)? {
             Answer::Refuted(hints) => {
-                let core = self.narrow(inquirer, desk, all, hints.as_slice())?;
+                let core = self.find_core(inquirer, desk, all, hints.as_slice())?;
                 self.settle_core(inquirer, desk, core)
             }
             Answer::Found(_values) => Ok(()),

@@ -1,7 +1,8 @@
 -- What notes answer is what their findings answer.
 use Rattle.std.proofs.Common.{◌≡◌, ◌≢◌, ◌↔◌, ◌⊎◌, inl, inr, ℕ, ◌+◌, ◌<◌, ◌≤◌, ◌==◌, ◌||◌, Bool, true, false, List, ◌∷◌, Option, Some, None, length}
 use Rattle.std.proofs.Common.{◌++◌, get_or, refl, sym, ap, ap₂, subst, ◌∙◌, arith}
-use Rattle.std.specs.Prelude.{Contains, nat_le, nat_lt}
+use Rattle.std.proofs.Common.{◌-◌}
+use Rattle.std.specs.Prelude.{Contains, min, nat_le, nat_lt}
 use Rattle.std.proofs.lemmas.Bool.{and_from, and_parts, cases_Bool, cond-false, cond-true, eq-eqb, eqb-false, eqb-true, le-leb, leb-false, leb-true, lt-leb}
 use Rattle.std.proofs.lemmas.Bool.{lt-ltb, ltb-true}
 use Rattle.std.proofs.lemmas.Bool.{or_cases, or_left, or_right, true≢false}
@@ -13,6 +14,7 @@ use Rattle.dist_findings.specs.declared.finding.Finding.{Finding}
 use Rattle.dist_repair.specs.Answered.{Answers, Asked, AsksAlone, EndsAt, IsFirstLeast, IsLeftAt, IsLower, IsRefuted, IsUpper, installed, moved_in, values_in}
 use Rattle.dist_repair.specs.NotesPrivate.{AreNotesOf, NotesView, answer_by, answer_of, ends_by, has_answer, is_at_end}
 use Rattle.dist_repair.specs.RepairFiles.{IsDecided}
+use Rattle.dist_repair.specs.Searched.{IsBelowUpper}
 use Rattle.dist_repair.specs.declared.repair.Repair.{Repair}
 use Rattle.dist_repair.specs.declared.repair.Repair.TheVariants as repair
 
@@ -30,7 +32,7 @@ module _ (s : SpaceView) (asked : Asked) (found : List Finding) where
       let up = lower-most a b first second in
       let down = lower-most b a second first in omega (arith, up, down)
 
-  low-enough : (lower : ℕ) → IsLower s asked found lower → lower ≤ asked.most + 1
+  pub low-enough : (lower : ℕ) → IsLower s asked found lower → lower ≤ asked.most + 1
   low-enough lower low = elim low.shown [
     | inl none ↦ omega (arith, none)
     | inr at ↦ omega (arith, at.1, at.2)
@@ -47,17 +49,17 @@ module _ (s : SpaceView) (asked : Asked) (found : List Finding) where
         ]
       ]
 
-  stands-there : (all : List (List ℕ)) (members : List ℕ) → IsFirstLeast s all members → Contains all members
+  pub stands-there : (all : List (List ℕ)) (members : List ℕ) → IsFirstLeast s all members → Contains all members
   stands-there all members first = subst (λ xs. Contains xs members) (sym first.stands)
       (Contains-append_right first.earlier (members ∷ first.later) members (0, omega arith, refl))
 
-  one-upper : (all : List (List ℕ)) (u v : ℕ × List Bool) → IsUpper s asked all (Some u) → IsUpper s asked all (Some v) → u.0 ≡ v.0
+  pub one-upper : (all : List (List ℕ)) (u v : ℕ × List Bool) → IsUpper s asked all (Some u) → IsUpper s asked all (Some v) → u.0 ≡ v.0
   one-upper all u v (a, first, count, values) (b, second, also, others) =
       let up = fewest all a b first (stands-there all b second) in
       let down = fewest all b a second (stands-there all a first) in
       omega (arith, up, down, count, also)
 
-  some-upper : (all : List (List ℕ)) (u : ℕ × List Bool) → IsUpper s asked all (Some u) → ¬ IsUpper s asked all None
+  pub some-upper : (all : List (List ℕ)) (u : ℕ × List Bool) → IsUpper s asked all (Some u) → ¬ IsUpper s asked all None
   some-upper all u (a, first, count, values) none = let at = stands-there all a first in omega (arith, at.1, ap (λ (xs : List (List ℕ)). length xs) none)
 
   -- ---- the question at the lower bound
@@ -175,6 +177,21 @@ module _ (s : SpaceView) (asked : Asked) (found : List Finding) where
 
   pub answer-decides : (n : NotesView) → AreNotesOf s asked found n → (has_answer n ≡ true) ↔ IsDecided s asked found
   answer-decides n are = ((λ on. (answer_of n, answer-right n are on)), λ decided. answer-there n are decided.0 decided.1)
+
+  -- ---- below the upper bound
+
+  -- one below the upper bound, or the most where that is smaller
+  pub below-upper : (n : NotesView) (u : ℕ × List Bool) (j : ℕ) → AreNotesOf s asked found n → n.upper ≡ Some u → 0 < u.0 → j ≡ min (u.0 - 1) n.words.most
+      → IsBelowUpper s asked found j
+  below-upper n u j are is some at =
+      let most = are.words.most_is in (
+        u,
+        subst (IsUpper s asked (installed s asked found)) is are.upper,
+        elim (cases_Bool (nat_le u.0 n.words.most)) [
+          | inl within ↦ let upto = leb-true u.0 n.words.most within in inl (omega (arith, at, some, upto))
+          | inr past ↦ let less = leb-false u.0 n.words.most past in inr (omega (arith, at, some, less, most), omega (arith, at, some, less))
+        ],
+      )
 
   -- ---- one answer
 

@@ -43,20 +43,23 @@ pub moves-of-model : (s : SpaceView) (clauses : List (List Literal)) → TellOfM
 moves-of-model s clauses tell stands values number p numbers model is holds at =
     let future = stands values model in
     record {
-      future = future_under s values;
-      is_future = future.is_future;
-      moved = record {
-        rising = at.rising;
-        exact = λ c. (
-          (λ there. let both = (at.exact c).0 there in (both.0, (tell.exact values model c both.0).1 both.1)),
-          λ both. (at.exact c).1 (both.0, (tell.exact values model c both.0).0 both.1),
-        );
+      by = record {
+        future = future_under s values;
+        is_future = future.is_future;
+        moved = record {
+          rising = at.rising;
+          exact = λ c. (
+            (λ there. let both = (at.exact c).0 there in (both.0, (tell.exact values model c both.0).1 both.1)),
+            λ both. (at.exact c).1 (both.0, (tell.exact values model c both.0).0 both.1),
+          );
+        };
+        installable = record {
+          members = installation_under s values;
+          healthy = future.healthy;
+          holds = tell.member values model number p is holds;
+        };
       };
-      installable = record {
-        members = installation_under s values;
-        healthy = future.healthy;
-        holds = tell.member values model number p is holds;
-      };
+      held = λ c k short on. tell.at_class values model c k short on;
     }
 
 module _ (s : SpaceView) (space : IsSpace s) (clauses : List (List Literal)) (most : ℕ) (tell : TellOfMoves s clauses)
@@ -120,7 +123,7 @@ module _ (s : SpaceView) (space : IsSpace s) (clauses : List (List Literal)) (mo
       (λ c short on. class-moved values counter_model c short (answer-from (at-decided s values c) on)) in
       let size = all.size in (
         all.numbers,
-        tells values number p all.numbers space_model is has.holds at,
+        (tells values number p all.numbers space_model is has.holds at).by,
         fewer within few values has.last (length all.numbers) has.is_last counter_model has.kept (omega (arith, wider, size)),
       )
 

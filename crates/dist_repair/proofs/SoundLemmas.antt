@@ -161,7 +161,7 @@ module _ (s : SpaceView) (space : IsSpace s) where
         let size : number ≡ length (clusters_under s (value_of (values_in s asked members))) =
         count ∙ ap (λ (cs : List ℕ). length cs) (same-clusters (counted_variables (counter_of s asked.most)) members wide) in
         subst (IsPlan s p number) (sym values_are) (record {
-          possible = (clusters_under s (value_of (values_in s asked members)), by, sym size);
+          possible = (clusters_under s (value_of (values_in s asked members)), by.by, sym size);
           count = size;
           installable = by;
         })

@@ -16,7 +16,7 @@ use Rattle.dist_future.specs.Moved.{IsAtClass}
 use Rattle.dist_future.specs.SpaceLaws.{holds_under}
 use Rattle.dist_space.specs.Space.{SpaceView, cluster_classes, variable_of}
 use Rattle.dist_space.specs.declared.meaning.Meaning.TheVariants.{Present, At}
-use Rattle.dist_repair.specs.Repair.{IsInstallableByMoving, IsPossibleWithin}
+use Rattle.dist_repair.specs.Repair.{IsInstalledUnder, IsPossibleWithin}
 
 -- what is given for each number below a bound, one after another
 unfoldable pub each_below : {X : Type 0} → ℕ → (ℕ → List X) → List X
@@ -102,11 +102,11 @@ pub record AreAtClass (s : SpaceView) (values : List Bool) (numbers : List ℕ) 
   pub rising : IsStrictlyIncreasing numbers
   pub exact : (c : ℕ) → Contains numbers c ↔ ((c < length s.clusters.members) × IsAtClass s values c)
 
--- A package that a model has can be installed by moving the clusters that are at a class in it.
+-- A package that a model has can be installed by moving the clusters that are at a class in it, each to its class.
 abbrev pub ModelsTellMoves : SpaceView → List (List Literal) → Type 0
 ModelsTellMoves s clauses = (values : List Bool) (number : ℕ) (p : Package) (numbers : List ℕ)
     → IsModel (value_of values) clauses → slice_get s.repository.packages number ≡ Some p
-    → holds_under s values (Present number) ≡ true → AreAtClass s values numbers → IsInstallableByMoving s p numbers
+    → holds_under s values (Present number) ≡ true → AreAtClass s values numbers → IsInstalledUnder s values p numbers
 
 -- ---- the set that holds them
 

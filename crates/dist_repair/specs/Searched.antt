@@ -1,12 +1,14 @@
 -- What a search for a repair goes by: what its questions find, and when this decides the answer.
-use Rattle.std.specs.Prelude.{◌≡◌, ◌⊎◌, ℕ, ◌+◌, ◌<◌, ◌≤◌, true, false, List, [], ◌∷◌, ◌++◌, All, Contains, length}
+use Rattle.std.specs.Prelude.{◌≡◌, ◌⊎◌, ℕ, ◌+◌, ◌<◌, ◌≤◌, Bool, true, false, List, [], ◌∷◌, ◌++◌, All, Contains, length}
+use Rattle.std.specs.Prelude.{Some}
 use Rattle.dist_clause.specs.Formula.{Literal}
 use Rattle.dist_cert.specs.Rising.{is_among}
 use Rattle.dist_space.specs.Space.{SpaceView}
 use Rattle.dist_findings.specs.SoundLaws.{IsSound}
 use Rattle.dist_findings.specs.declared.finding.Finding.{Finding}
 use Rattle.dist_findings.specs.declared.finding.Finding.TheVariants.{Refuted, LeftUndecided, Installed}
-use Rattle.dist_repair.specs.Answered.{Answers, Asked, AsksAlone, AsksAt, IsLeft, IsLower, IsRefuted, beyond, installed}
+use Rattle.dist_repair.specs.Answered.{Answers, Asked, AsksAlone, AsksAt, IsLeft, IsLower, IsRefuted, IsUpper, beyond}
+use Rattle.dist_repair.specs.Answered.{installed}
 use Rattle.dist_repair.specs.Answered.{own}
 use Rattle.dist_repair.specs.Counters.{counted_clauses}
 use Rattle.dist_repair.specs.NotesPrivate.{AreNotesOf, NotesView, answer_of}
@@ -39,6 +41,19 @@ NextDecides s clauses = (asked : Asked) (limit : ℕ) (found : List Finding) (f 
     → AreNotesOf s asked (found ++ f ∷ []) n → IsBegun s asked found → IsLower s asked found j → j ≤ asked.most
     → IsFoundAt s asked j f → IsBegun s asked (found ++ f ∷ [])
     × (IsDecided s asked (found ++ f ∷ []) ⊎ IsLower s asked (found ++ f ∷ []) (j + 1))
+
+-- The number is one below the upper bound, or the most where that is smaller.
+abbrev pub IsBelowUpper : SpaceView → Asked → List Finding → (j : ℕ) → Type 0
+IsBelowUpper s asked found j = (upper : ℕ × List Bool) × IsUpper s asked (installed s asked found) (Some upper)
+    × ((j + 1 ≡ upper.0) ⊎ ((j ≡ asked.most) × (j < upper.0)))
+
+-- Where an answer is decided, it still is behind what the question at such a number finds.
+abbrev pub LowerDecides : SpaceView → List (List Literal) → Type 0
+LowerDecides s clauses = (asked : Asked) (limit : ℕ) (found : List Finding) (f : Finding) (j : ℕ) (n m : NotesView)
+    → asked.number < length s.repository.packages
+    → All (IsSound (counted_clauses s clauses asked.most) limit) (found ++ f ∷ [])
+    → AreNotesOf s asked found n → AreNotesOf s asked (found ++ f ∷ []) m → IsDecided s asked found → j ≤ asked.most
+    → IsBelowUpper s asked found j → IsFoundAt s asked j f → IsDecided s asked (found ++ f ∷ [])
 
 -- Notes of findings that decide an answer have this one.
 abbrev pub NotesAnswer : SpaceView → Type 0

@@ -9,7 +9,7 @@ ghost use Rattle.dist_findings.specs.Answers.{IsAnswered};
 ghost use Rattle.dist_repair.specs.Answered.{Answers};
 ghost use Rattle.dist_repair.specs.Counters.{CountedModelsTell, ModelsTellMoves};
 ghost use Rattle.dist_repair.specs.RepairFiles.{asked_by, repair_files};
-ghost use Rattle.dist_repair.specs.Searched.{LastDecides, NextDecides, NotesAnswer};
+ghost use Rattle.dist_repair.specs.Searched.{LastDecides, LowerDecides, NextDecides, NotesAnswer};
 ghost use Rattle.dist_repair.specs.Verdicts.{AcceptedSays, IsHeaderOf, IsOfText, RepairAnswers};
 ghost use Rattle.dist_repair.specs.declared.repair.Repair.{Repair};
 ghost use Rattle.dist_repair.specs.declared.verdict.RepairHeader.{RepairHeader};
@@ -43,10 +43,11 @@ pub fn accepted_repairs_hold()
     counters_count_moves();
 }
 
-/// What questions that are asked at the lower bound, one after another, find of an answer.
+/// What questions find of an answer that are asked at the lower bound, one after another, and then below the upper bound.
 pub fn questions_decide()
     ensures next { (s : SpaceView) (clauses : List (List Literal)) → IsSpace s → AreSpaceClauses s clauses → NextDecides s clauses }
     ensures last { (s : SpaceView) → LastDecides s }
+    ensures lower { (s : SpaceView) (clauses : List (List Literal)) → IsSpace s → AreSpaceClauses s clauses → LowerDecides s clauses }
     ensures answer { (s : SpaceView) → NotesAnswer s }
 {
     models_tell_of_moves();

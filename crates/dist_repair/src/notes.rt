@@ -1,5 +1,5 @@
 //! What is noted of the findings of a file.
-ghost use Rattle.std.specs.Prelude.{◌≡◌, ◌++◌, ◌∷◌, ◌<◌, ◌≤◌, ◌^◌, [], IfOk, List, OnOk};
+ghost use Rattle.std.specs.Prelude.{◌≡◌, ◌++◌, ◌∷◌, ◌<◌, ◌≤◌, ◌^◌, [], IfOk, IfSome, List, OnOk};
 ghost use Rattle.dist_cert.specs.Form.{AreFromOne};
 ghost use Rattle.dist_cert.specs.Rising.{AreRising};
 ghost use Rattle.dist_space.specs.Space.{SpaceView};
@@ -7,6 +7,7 @@ ghost use Rattle.dist_findings.specs.Findings.{IsFormed};
 ghost use Rattle.dist_findings.specs.declared.finding.Finding.{Finding};
 ghost use Rattle.dist_repair.specs.Answered.{Asked};
 ghost use Rattle.dist_base.specs.declared.TheConstants.{MAX_MOST};
+ghost use Rattle.dist_repair.specs.Searched.{IsBelowUpper};
 ghost use Rattle.dist_repair.specs.NotesPrivate.{AreNotesOf, AreWordsOf, NotesLeft, NotesRefuted, answer_of, has_answer, is_at_end, is_fewer, noted_installed, raised};
 
 use crate::moved::{moved_in, values_of};
@@ -154,6 +155,17 @@ impl Notes {
                 Ok(())
             }
             Finding::Installed(members) => self.note_installed(alloc, space, members.as_slice()),
+        }
+    }
+
+    /// The number of the question that would make the bounds meet where it is refuted, or show that they differ by the most alone: one
+    /// below the upper bound, or the most where that is smaller.
+    pub fn below(&self) -> Option<u32>
+        ensures { IfSome result (λ j. (s : SpaceView) (asked : Asked) (found : List Finding) → AreNotesOf s asked found self.now → IsBelowUpper s asked found j) }
+    {
+        match &self.upper {
+            Some((least, _)) if *least > 0 => Some((*least - 1).min(self.words.most)),
+            _ => None,
         }
     }
 

@@ -1,5 +1,5 @@
 -- All questions, one after another, and the file that they make.
-use Rattle.std.proofs.Common.{◌≡◌, ◌≢◌, inl, inr, Result, Ok, Err, IfErr, ℕ, ◌+◌, ◌≤◌, List, [], ◌∷◌, ◌++◌, sym, ap, subst, arith}
+use Rattle.std.proofs.Common.{◌≡◌, ◌≢◌, inl, inr, Result, Ok, Err, IfErr, ℕ, ◌+◌, ◌<◌, ◌≤◌, List, [], ◌∷◌, ◌++◌, sym, ap, subst, arith}
 use Rattle.std.proofs.lemmas.List.Elements.{All-cons, All-nil}
 use Rattle.dist_clause.specs.Formula.{Literal}
 use Rattle.dist_cert.specs.FileLines.{lines_text}
@@ -20,7 +20,7 @@ use Rattle.dist_outside.specs.declared.trouble.WorkError.{WorkError}
 use Rattle.dist_repair.specs.Answered.{Answers, Asked, AsksAlone, AsksAt, IsLower}
 use Rattle.dist_repair.specs.NotesPrivate.{AreNotesOf, AreWordsOf, NotesView, WordsView, answer_of}
 use Rattle.dist_repair.specs.RepairFiles.{IsDecided, asked_by, most_of, repair_files}
-use Rattle.dist_repair.specs.Searched.{LastDecides, NextDecides, NotesAnswer}
+use Rattle.dist_repair.specs.Searched.{IsBelowUpper, LastDecides, LowerDecides, NextDecides, NotesAnswer}
 use Rattle.dist_solver.specs.declared.answers.Answer.{Answer}
 use Rattle.dist_space.specs.RisingLaws.{pairs-cons, pairs-none}
 use Rattle.dist_space.specs.Space.{IsSpace, SpaceView}
@@ -28,9 +28,9 @@ use Rattle.dist_space_clauses.specs.SpaceClauses.{AreSpaceClauses}
 use Rattle.dist_sweep.specs.Asking.{AskerView, IsOver}
 use Rattle.dist_sweep.specs.ScriptLaws.{TwiceLaw, lines-more}
 use Rattle.dist_repair_search.specs.QuestionOrder.{repair_asks}
-use Rattle.dist_repair_search.specs.SearchPrivate.{AloneMore, AloneStops, AreOver, AreRight, ComesTo, IsWrittenAt, NextMore, NextStops}
-use Rattle.dist_repair_search.specs.SearchPrivate.{SearchMore, setting_at}
-use Rattle.dist_repair_search.proofs.StepLemmas.{after-alone, after-at, noting, stops-alone, stops-at}
+use Rattle.dist_repair_search.specs.SearchPrivate.{AloneMore, AloneStops, AreOver, AreRight, ComesDown, ComesTo, DownTo, IsWrittenAt, LowerMore}
+use Rattle.dist_repair_search.specs.SearchPrivate.{LowerStops, MayLower, NextMore, NextStops, SearchMore, setting_at}
+use Rattle.dist_repair_search.proofs.StepLemmas.{after-alone, after-at, after-lower, noting, stops-alone, stops-at, stops-lower}
 
 -- ---- the questions are over the variables
 
@@ -99,6 +99,18 @@ module _ (s : SpaceView) (space : IsSpace s) (w : WordsView) (question : List Wo
         stops-at s space limits numbers basis w right lines j a n stands open_still (upto numbers right.words) question (asks (asked_by numbers) right.words)
         old new error stops
 
+    pub lower-more : ((clauses : List (List Literal)) → AreSpaceClauses s clauses → LowerDecides s clauses) → (b : AskerView) (m : NotesView)
+        (answer : Answer) → NoteMore (noting s) old new a b n m question answer → LowerMore s w j n m old new a b
+    lower-more law b m answer more limits numbers basis lines from above right may =
+        after-lower s space limits numbers basis w right lines from above j a n may (upto numbers right.words) question
+        (asks (asked_by numbers) right.words) old new law b m answer
+        (more (setting_at s limits numbers basis) numbers lines (record { at = may.stands.written.at; noted = may.stands.written.noted }))
+
+    pub lower-stops : (error : WorkError) → AskStops a question old new error → LowerStops s w j n old new a error
+    lower-stops error stops limits numbers basis lines from above right may =
+        stops-lower s space limits numbers basis w right lines from above j a n may (upto numbers right.words) question
+        (asks (asked_by numbers) right.words) old new error stops
+
 -- ---- all questions
 
 -- the search has come to a number
@@ -130,36 +142,78 @@ module _ (twice : TwiceLaw) (s : SpaceView) (w : WordsView) (n : NotesView) (old
       first.stands.written.asked
       (next limits numbers basis first.more right first.stands (undecided numbers (findings first.more) first.stands.written.noted))
 
+  -- no question from a number on was opened
+  from-on : (limits : Limits) (numbers : List ℕ) (basis : Inputs) (j above : ℕ) (m : NotesView) (mid : DeskView) (b : AskerView)
+      → (come : ComesTo s limits numbers basis [] j old mid b m) → IsDecided s (asked_by numbers) (findings come.more)
+      → ComesDown s limits numbers basis [] j above old mid b m
+  from-on limits numbers basis j above m mid b come decided = record {
+    more = come.more;
+    grew = come.grew;
+    stands = record {
+      written = come.stands.written;
+      between = λ i upto less. come.stands.below i upto;
+      decided = decided;
+    };
+  }
+
   -- it ends where the answer is decided
-  pub ends-decided : (j : ℕ) (m : NotesView) (mid : DeskView) (b : AskerView) → SearchTo s w n old a j m mid b
+  pub ends-decided : (j above : ℕ) (m : NotesView) (mid : DeskView) (b : AskerView) → SearchTo s w n old a j m mid b
       → ((numbers : List ℕ) (found : List Finding) → AreNotesOf s (asked_by numbers) found m → IsDecided s (asked_by numbers) found)
-      → SearchMore s w n m old mid a b
-  ends-decided j m mid b to decided limits numbers basis right written =
+      → DownTo s w n old a j above m mid b
+  ends-decided j above m mid b to decided limits numbers basis right written =
       let first = to limits numbers basis right written in
-      record {
-        lines = first.more;
-        grew = first.grew;
-        written = first.stands.written;
-        decided = decided numbers (findings first.more) first.stands.written.noted;
-      }
+      from-on limits numbers basis j above m mid b first (decided numbers (findings first.more) first.stands.written.noted)
 
   -- or at the most
-  pub ends-last : LastDecides s → (j : ℕ) (m : NotesView) (mid : DeskView) (b : AskerView) → SearchTo s w n old a j m mid b → j ≡ w.most + 1
-      → SearchMore s w n m old mid a b
-  ends-last law j m mid b to last limits numbers basis right written =
+  pub ends-last : LastDecides s → (j above : ℕ) (m : NotesView) (mid : DeskView) (b : AskerView) → SearchTo s w n old a j m mid b → j ≡ w.most + 1
+      → DownTo s w n old a j above m mid b
+  ends-last law j above m mid b to last limits numbers basis right written =
       let first = to limits numbers basis right written in
       let most = right.words.most_is in
       let end : j ≡ most_of numbers + 1 = omega (arith, last, most) in
-      record {
-        lines = first.more;
-        grew = first.grew;
-        written = first.stands.written;
-        decided = elim first.stands.next [
-          | inl decided ↦ decided
-          | inr lower ↦ law (asked_by numbers) (findings first.more) m first.stands.written.noted first.stands.begun
-              (subst (IsLower s (asked_by numbers) (findings first.more)) end lower)
-        ];
-      }
+      from-on limits numbers basis j above m mid b first (elim first.stands.next [
+        | inl decided ↦ decided
+        | inr lower ↦ law (asked_by numbers) (findings first.more) m first.stands.written.noted first.stands.begun
+            (subst (IsLower s (asked_by numbers) (findings first.more)) end lower)
+      ])
+
+  -- ---- below the upper bound
+
+  module _ (from above j : ℕ) (m : NotesView) (mid new : DeskView) (b : AskerView) (to : DownTo s w n old a from above m mid b) (on : from ≤ j)
+      (less : j < above)
+      (below : (numbers : List ℕ) (found : List Finding) → AreNotesOf s (asked_by numbers) found m → IsBelowUpper s (asked_by numbers) found j) where
+    may-lower : (limits : Limits) (numbers : List ℕ) (basis : Inputs) (right : AreRight s limits numbers basis w)
+        (written : IsWrittenAt s limits numbers basis [] a n) → MayLower s limits numbers basis (to limits numbers basis right written).more from above j b m
+    may-lower limits numbers basis right written =
+        let first = to limits numbers basis right written in record {
+          stands = first.stands;
+          from_on = on;
+          less = less;
+          below = below numbers (findings first.more) first.stands.written.noted;
+        }
+
+    pub comes-down : (l : NotesView) (d : AskerView) → LowerMore s w j m l mid new b d → DownTo s w n old a from j l new d
+    comes-down l d next limits numbers basis right written =
+        let first = to limits numbers basis right written in
+        let second = next limits numbers basis first.more from above right (may-lower limits numbers basis right written) in
+        record {
+          more = first.more ++ second.more;
+          grew = subst (λ (bytes : List ℕ). FileGrew bytes old new) (sym (lines-more first.more second.more))
+              (twice (lines_text first.more) (lines_text second.more) old mid new first.grew second.grew);
+          stands = second.stands;
+        }
+
+    pub stops-down : (error : WorkError) → LowerStops s w j m mid new b error → AloneStops s w n old new a error
+    stops-down error next limits numbers basis right written =
+        let first = to limits numbers basis right written in
+        stops-after twice (setting_at s limits numbers basis) (repair_asks s numbers) [] first.more old mid new error first.grew
+        first.stands.written.asked (next limits numbers basis first.more from above right (may-lower limits numbers basis right written))
+
+  pub ends-down : (from above : ℕ) (m : NotesView) (mid : DeskView) (b : AskerView) → DownTo s w n old a from above m mid b
+      → SearchMore s w n m old mid a b
+  ends-down from above m mid b to limits numbers basis right written =
+      let first = to limits numbers basis right written in
+      record { lines = first.more; grew = first.grew; written = first.stands.written; decided = first.stands.decided }
 
 -- ---- the search of a file
 

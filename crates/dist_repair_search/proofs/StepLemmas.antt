@@ -1,5 +1,5 @@
 -- A question that was asked behind some lines, and where the search stands behind it.
-use Rattle.std.proofs.Common.{◌≡◌, inl, inr, ℕ, ◌+◌, ◌-◌, ◌<◌, ◌≤◌, List, [], ◌∷◌, ◌++◌, length, refl, sym, ap, subst, ◌∙◌, arith}
+use Rattle.std.proofs.Common.{◌≡◌, ◌≢◌, inl, inr, ℕ, ◌+◌, ◌-◌, ◌<◌, ◌≤◌, List, [], ◌∷◌, ◌++◌, length, refl, sym, ap, subst, ◌∙◌, arith}
 use Rattle.std.specs.Prelude.{All}
 use Rattle.std.proofs.lemmas.List.Elements.{All-push, Contains-append_cases}
 use Rattle.dist_clause.specs.Formula.{Literal}
@@ -22,7 +22,7 @@ use Rattle.dist_repair.specs.Counters.{counted_clauses}
 use Rattle.dist_repair.specs.NotesPrivate.{AreNotesOf, NotesView, WordsView}
 use Rattle.dist_repair.specs.QuestionLaws.{not-both, one-number}
 use Rattle.dist_repair.specs.RepairFiles.{AreCountedInputs, IsDecided, asked_by, most_of, number_at}
-use Rattle.dist_repair.specs.Searched.{IsBegun, NextDecides}
+use Rattle.dist_repair.specs.Searched.{IsBegun, IsFoundAt, LowerDecides, NextDecides}
 use Rattle.dist_solver.specs.declared.answers.Answer.{Answer}
 use Rattle.dist_space.specs.Space.{IsSpace, SpaceView}
 use Rattle.dist_space.specs.VariableLaws.{variable-range}
@@ -31,7 +31,7 @@ use Rattle.dist_space_clauses.specs.SpaceClauses.{AreSpaceClauses}
 use Rattle.dist_sweep.specs.Asking.{AskerView, question_lines}
 use Rattle.dist_sweep.specs.Words.{closing_line}
 use Rattle.dist_repair_search.specs.QuestionOrder.{WasNotAsked, repair_asks}
-use Rattle.dist_repair_search.specs.SearchPrivate.{AreRight, ComesTo, IsWrittenAt, StandsAt}
+use Rattle.dist_repair_search.specs.SearchPrivate.{AreRight, ComesDown, ComesTo, IsWrittenAt, MayLower, StandsAt}
 use Rattle.dist_repair_search.specs.SearchPrivate.{setting_at}
 use Rattle.dist_repair_search.proofs.FoundLemmas.{begun-alone, finding-sound, found-alone, found-at, lower-alone, question-in}
 
@@ -140,11 +140,45 @@ module _ (s : SpaceView) (space : IsSpace s) (limits : Limits) (numbers : List �
 
   -- ---- the question at a number
 
+  module _ (before : List CertRecord) (j : ℕ) (a : AskerView) (n : NotesView) (written : IsWrittenAt s limits numbers basis before a n)
+      (within : j ≤ most_of numbers) (question : List Word) (asks : AsksAt s (asked_by numbers) j question)
+      (none : WasNotAsked (AsksAt s (asked_by numbers) j) before) where
+    may-at : repair_asks s numbers before question
+    may-at = inr (j, within, asks, none)
+
+    module _ (old new : DeskView) (b : AskerView) (m : NotesView) (answer : Answer)
+        (done : IsAskedAndNoted (noting s) (setting_at s limits numbers basis) numbers before question old new b m answer) where
+      found-there : IsFoundAt s (asked_by numbers) j (finding_of question answer)
+      found-there =
+          let range = own-range in
+          let place = beyond-range j within in
+          found-at s (asked_by numbers) g range.0 range.1 j place.0 place.1 question answer asks done.asked.says
+
+      sound-there : All (IsSound (counted_clauses s counted.clauses (most_of numbers)) 0) (findings before ++ finding_of question answer ∷ [])
+      sound-there = subst (λ (cs : List (List Literal)). All (IsSound cs 0) (findings before ++ finding_of question answer ∷ [])) counted.counted
+          (sound-more before a n written question may-at old new b m answer done)
+
+      written-there : IsWrittenAt s limits numbers basis (before ++ question_lines question done.asked.between (closing_line answer)) b m
+      written-there = written-more before a n written question may-at old new b m answer done
+
+      -- the question at another number was opened only if it was before
+      others-there : (i : ℕ) → i ≢ j → WasNotAsked (AsksAt s (asked_by numbers) i) before
+          → WasNotAsked (AsksAt s (asked_by numbers) i) (before ++ question_lines question done.asked.between (closing_line answer))
+      others-there i apart none_before =
+          not-asked-more before a n written question may-at old new b m answer done (AsksAt s (asked_by numbers) i) none_before
+          (λ other. apart (one-number s (asked_by numbers) i j question other asks))
+
+    stops-there : (old new : DeskView) (error : WorkError) → AskStops a question old new error
+        → Stops (setting_at s limits numbers basis) (repair_asks s numbers) before old new error
+    stops-there old new error stops = stops-asking g (repair_asks s numbers) before question old new error may-at (stops g before written.at)
+
+  -- ---- at the lower bound
+
   module _ (before : List CertRecord) (j : ℕ) (a : AskerView) (n : NotesView) (stands : StandsAt s limits numbers basis before j a n)
       (open_still : ¬ IsDecided s (asked_by numbers) (findings before)) (within : j ≤ most_of numbers) (question : List Word)
       (asks : AsksAt s (asked_by numbers) j question) (old new : DeskView) where
-    may-at : repair_asks s numbers before question
-    may-at = inr (j, within, asks, stands.below j (omega arith))
+    none_there : WasNotAsked (AsksAt s (asked_by numbers) j) before
+    none_there = stands.below j (omega arith)
 
     pub after-at : ((clauses : List (List Literal)) → AreSpaceClauses s clauses → NextDecides s clauses) → (b : AskerView) (m : NotesView) (answer : Answer)
         → IsAskedAndNoted (noting s) (setting_at s limits numbers basis) numbers before question old new b m answer
@@ -155,12 +189,8 @@ module _ (s : SpaceView) (space : IsSpace s) (limits : Limits) (numbers : List �
           | inr lower ↦ lower
         ] in
         let its : Finding = finding_of question answer in
-        let range = own-range in
-        let place = beyond-range j within in
-        let at = found-at s (asked_by numbers) g range.0 range.1 j place.0 place.1 question answer asks done.asked.says in
-        let sound : All (IsSound (counted_clauses s counted.clauses (most_of numbers)) 0) (findings before ++ its ∷ []) =
-        subst (λ (cs : List (List Literal)). All (IsSound cs 0) (findings before ++ its ∷ [])) counted.counted
-        (sound-more before a n stands.written question may-at old new b m answer done) in
+        let at = found-there before j a n stands.written within question asks none_there old new b m answer done in
+        let sound = sound-there before j a n stands.written within question asks none_there old new b m answer done in
         let next = law counted.clauses counted.are_clauses (asked_by numbers) 0 (findings before) its j m in-packages sound done.noted stands.begun low
         within at in
         let so : findings (before ++ question_lines question done.asked.between (closing_line answer)) ≡ findings before ++ its ∷ [] = done.finds in
@@ -168,11 +198,10 @@ module _ (s : SpaceView) (space : IsSpace s) (limits : Limits) (numbers : List �
           more = question_lines question done.asked.between (closing_line answer);
           grew = done.asked.grew;
           stands = record {
-            written = written-more before a n stands.written question may-at old new b m answer done;
+            written = written-there before j a n stands.written within question asks none_there old new b m answer done;
             begun = subst (IsBegun s (asked_by numbers)) (sym so) next.0;
-            below = λ i upto. not-asked-more before a n stands.written question may-at old new b m answer done (AsksAt s (asked_by numbers) i)
-                (stands.below i (omega (arith, upto)))
-                (λ other. let same = one-number s (asked_by numbers) i j question other asks in omega (arith, same, upto));
+            below = λ i upto. others-there before j a n stands.written within question asks none_there old new b m answer done i
+                (λ same. omega (arith, same, upto)) (stands.below i (omega (arith, upto)));
             next = elim next.1 [
               | inl decided ↦ inl (subst (IsDecided s (asked_by numbers)) (sym so) decided)
               | inr lower ↦ inr (subst (λ (fs : List Finding). IsLower s (asked_by numbers) fs (j + 1)) (sym so) lower)
@@ -182,4 +211,37 @@ module _ (s : SpaceView) (space : IsSpace s) (limits : Limits) (numbers : List �
 
     pub stops-at : (error : WorkError) → AskStops a question old new error
         → Stops (setting_at s limits numbers basis) (repair_asks s numbers) before old new error
-    stops-at error stops = stops-asking g (repair_asks s numbers) before question old new error may-at (stops g before stands.written.at)
+    stops-at error stops = stops-there before j a n stands.written within question asks none_there old new error stops
+
+  -- ---- below the upper bound
+
+  module _ (before : List CertRecord) (from above j : ℕ) (a : AskerView) (n : NotesView) (may : MayLower s limits numbers basis before from above j a n)
+      (within : j ≤ most_of numbers) (question : List Word) (asks : AsksAt s (asked_by numbers) j question) (old new : DeskView) where
+    none_lower : WasNotAsked (AsksAt s (asked_by numbers) j) before
+    none_lower = may.stands.between j may.from_on may.less
+
+    pub after-lower : ((clauses : List (List Literal)) → AreSpaceClauses s clauses → LowerDecides s clauses) → (b : AskerView) (m : NotesView)
+        (answer : Answer) → IsAskedAndNoted (noting s) (setting_at s limits numbers basis) numbers before question old new b m answer
+        → ComesDown s limits numbers basis before from j old new b m
+    after-lower law b m answer done =
+        let its : Finding = finding_of question answer in
+        let at = found-there before j a n may.stands.written within question asks none_lower old new b m answer done in
+        let sound = sound-there before j a n may.stands.written within question asks none_lower old new b m answer done in
+        let next = law counted.clauses counted.are_clauses (asked_by numbers) 0 (findings before) its j n m in-packages sound may.stands.written.noted
+        done.noted may.stands.decided within may.below at in
+        let so : findings (before ++ question_lines question done.asked.between (closing_line answer)) ≡ findings before ++ its ∷ [] = done.finds in
+        let above_it = may.less in
+        record {
+          more = question_lines question done.asked.between (closing_line answer);
+          grew = done.asked.grew;
+          stands = record {
+            written = written-there before j a n may.stands.written within question asks none_lower old new b m answer done;
+            between = λ i upto less. others-there before j a n may.stands.written within question asks none_lower old new b m answer done i
+                (λ same. omega (arith, same, less)) (may.stands.between i upto (omega (arith, less, above_it)));
+            decided = subst (IsDecided s (asked_by numbers)) (sym so) next;
+          };
+        }
+
+    pub stops-lower : (error : WorkError) → AskStops a question old new error
+        → Stops (setting_at s limits numbers basis) (repair_asks s numbers) before old new error
+    stops-lower error stops = stops-there before j a n may.stands.written within question asks none_lower old new error stops

@@ -18,7 +18,7 @@ use Rattle.dist_outside.specs.declared.trouble.WorkError.TheVariants.{NoMemory}
 use Rattle.dist_repair.specs.Answered.{Answers, Asked, AsksAt, IsLower}
 use Rattle.dist_repair.specs.NotesPrivate.{AreNotesOf, AreWordsOf, NotesView, WordsView, answer_of}
 use Rattle.dist_repair.specs.RepairFiles.{IsDecided, asked_by, repair_files}
-use Rattle.dist_repair.specs.Searched.{IsBegun}
+use Rattle.dist_repair.specs.Searched.{IsBegun, IsBelowUpper}
 use Rattle.dist_repair.specs.declared.repair.Repair.{Repair}
 use Rattle.dist_space.specs.Space.{SpaceView}
 use Rattle.dist_sweep.specs.Asking.{AskerView}
@@ -96,6 +96,49 @@ NextStops s w j n old new a error = (limits : Limits) (numbers : List ℕ) (basi
     → AreRight s limits numbers basis w → StandsAt s limits numbers basis lines j a n
     → ¬ IsDecided s (asked_by numbers) (findings lines)
     → Stops (setting_at s limits numbers basis) (repair_asks s numbers) lines old new error
+
+-- ---- the question below the upper bound, where the answer is decided
+
+-- The answer is decided, and no question at a number from one on and below another was opened.
+pub record IsDecidedAt (s : SpaceView) (limits : Limits) (numbers : List ℕ) (basis : Inputs) (lines : List CertRecord)
+    (from above : ℕ) (a : AskerView) (n : NotesView) : Type 0 where
+  pub written : IsWrittenAt s limits numbers basis lines a n
+  pub between : (i : ℕ) → from ≤ i → i < above → WasNotAsked (AsksAt s (asked_by numbers) i) lines
+  pub decided : IsDecided s (asked_by numbers) (findings lines)
+
+-- Lines more were written behind some, and there it is so.
+pub record ComesDown (s : SpaceView) (limits : Limits) (numbers : List ℕ) (basis : Inputs) (before : List CertRecord)
+    (from above : ℕ) (old new : DeskView) (b : AskerView) (n : NotesView) : Type 0 where
+  pub more : List CertRecord
+  pub grew : FileGrew (lines_text more) old new
+  pub stands : IsDecidedAt s limits numbers basis (before ++ more) from above b n
+
+-- A question at a number may be asked: it is below the upper bound, and among those that were not opened.
+pub record MayLower (s : SpaceView) (limits : Limits) (numbers : List ℕ) (basis : Inputs) (lines : List CertRecord)
+    (from above j : ℕ) (a : AskerView) (n : NotesView) : Type 0 where
+  pub stands : IsDecidedAt s limits numbers basis lines from above a n
+  pub from_on : from ≤ j
+  pub less : j < above
+  pub below : IsBelowUpper s (asked_by numbers) (findings lines) j
+
+abbrev pub LowerMore : SpaceView → WordsView → (j : ℕ) → NotesView → NotesView → DeskView → DeskView → AskerView
+    → AskerView → Type 0
+LowerMore s w j n m old new a b = (limits : Limits) (numbers : List ℕ) (basis : Inputs) (lines : List CertRecord)
+    (from above : ℕ) → AreRight s limits numbers basis w → MayLower s limits numbers basis lines from above j a n
+    → ComesDown s limits numbers basis lines from j old new b m
+
+abbrev pub LowerStops : SpaceView → WordsView → (j : ℕ) → NotesView → DeskView → DeskView → AskerView → WorkError
+    → Type 0
+LowerStops s w j n old new a error = (limits : Limits) (numbers : List ℕ) (basis : Inputs) (lines : List CertRecord)
+    (from above : ℕ) → AreRight s limits numbers basis w → MayLower s limits numbers basis lines from above j a n
+    → Stops (setting_at s limits numbers basis) (repair_asks s numbers) lines old new error
+
+-- The answer is decided, and no question at a number from one on and below another was opened, since nothing was asked.
+abbrev pub DownTo : SpaceView → WordsView → NotesView → DeskView → AskerView → (from above : ℕ) → NotesView → DeskView
+    → AskerView → Type 0
+DownTo s w n old a from above m new b = (limits : Limits) (numbers : List ℕ) (basis : Inputs)
+    → AreRight s limits numbers basis w → IsWrittenAt s limits numbers basis [] a n
+    → ComesDown s limits numbers basis [] from above old new b m
 
 -- ---- all questions
 

@@ -1,8 +1,13 @@
 //! The questions.
-ghost use Rattle.std.specs.Prelude.{◌≡◌, ◌≤◌, IfErr, OnOk};
+ghost use Rattle.std.specs.Prelude.{◌≡◌, ◌+◌, ◌<◌, ◌≤◌, List, IfErr, IfOk, IfSome, OnOk};
 ghost use Rattle.dist_outside.specs.Files.{IsWriting};
 ghost use Rattle.dist_sweep.specs.Script.{Grows};
-ghost use Rattle.dist_repair_search.specs.SearchPrivate.{AloneMore, AloneStops, AreOver, NextMore, NextStops, SearchMore};
+ghost use Rattle.dist_space.specs.Space.{SpaceView};
+ghost use Rattle.dist_findings.specs.declared.finding.Finding.{Finding};
+ghost use Rattle.dist_repair.specs.Answered.{Asked};
+ghost use Rattle.dist_repair.specs.NotesPrivate.{AreNotesOf};
+ghost use Rattle.dist_repair.specs.Searched.{IsBelowUpper};
+ghost use Rattle.dist_repair_search.specs.SearchPrivate.{AloneMore, AloneStops, AreOver, DownTo, LowerMore, LowerStops, NextMore, NextStops, SearchMore};
 
 use dist_findings::Answering;
 use dist_inquiry::{Inquirer, Inquiring, ask_and_note};
@@ -42,7 +47,8 @@ fn ask_alone<D: Desk>(
     Ok(())
 }
 
-/// Asks for the package where not more than so many clusters have moved, where the answer is not decided.
+/// Asks for the package where not more than so many clusters have moved: at the lower bound, where the answer is not decided, or else
+/// below the upper bound, at a number that was not asked.
 fn ask_at<D: Desk>(
     repairing: &Repairing<'_>,
     words: &Words,
@@ -57,6 +63,8 @@ fn ask_at<D: Desk>(
     requires number { number ≤ words.now.most }
     ensures ok { OnOk result (NextMore repairing.now.space.now words.now number notes.old notes.new (D.view desk.old) (D.view desk.new) inquirer.old inquirer.new) }
     ensures err { IfErr result (NextStops repairing.now.space.now words.now number notes.old (D.view desk.old) (D.view desk.new) inquirer.old) }
+    ensures lower { OnOk result (LowerMore repairing.now.space.now words.now number notes.old notes.new (D.view desk.old) (D.view desk.new) inquirer.old inquirer.new) }
+    ensures lower_err { IfErr result (LowerStops repairing.now.space.now words.now number notes.old (D.view desk.old) (D.view desk.new) inquirer.old) }
     ensures variables { OnOk result (inquirer.new.log.variables ≡ inquirer.old.log.variables) }
     ensures same_limit { OnOk result (inquirer.new.limit ≡ inquirer.old.limit) }
     ensures grows { Grows (D.view desk.old) (D.view desk.new) }
@@ -70,7 +78,49 @@ fn ask_at<D: Desk>(
     Ok(())
 }
 
-/// Asks for the package alone, and then where more and more clusters may move, until the answer is decided.
+/// Asks for the package alone, and then where more and more clusters may move, until the answer is decided. The first number that was
+/// not asked is the answer.
+fn ask_up<D: Desk>(
+    repairing: &Repairing<'_>,
+    words: &Words,
+    notes: &mut Notes,
+    inquirer: &mut Inquirer,
+    desk: &mut D,
+) -> Result<u32, WorkError>
+    requires writing { IsWriting (D.view desk.old).mode }
+    requires limit { 1 ≤ inquirer.old.limit }
+    requires over { AreOver inquirer.old.log.variables words.now }
+    ensures ok { IfOk result (λ from. DownTo repairing.now.space.now words.now notes.old (D.view desk.old) inquirer.old from (words.now.most + 1) notes.new (D.view desk.new) inquirer.new) }
+    ensures err { IfErr result (AloneStops repairing.now.space.now words.now notes.old (D.view desk.old) (D.view desk.new) inquirer.old) }
+    ensures variables { IfOk result (λ from. inquirer.new.log.variables ≡ inquirer.old.log.variables) }
+    ensures same_limit { IfOk result (λ from. inquirer.new.limit ≡ inquirer.old.limit) }
+    ensures grows { Grows (D.view desk.old) (D.view desk.new) }
+{
+    file_grows();
+    questions_decide();
+    ask_alone(repairing, words, notes, inquirer, desk)?;
+    for number in 0..words.most() + 1 {
+        if repairing.is_decided(notes) {
+            return Ok(number);
+        }
+        ask_at(repairing, words, notes, inquirer, desk, number)?;
+    }
+    Ok(words.most() + 1)
+}
+
+/// The number that may be asked below the upper bound, from one on and below another.
+fn number_below(notes: &Notes, from: u32, above: u32) -> Option<u32>
+    ensures from { IfSome result (λ j. from ≤ j) }
+    ensures less { IfSome result (λ j. j < above) }
+    ensures below { IfSome result (λ j. (s : SpaceView) (asked : Asked) (found : List Finding) → AreNotesOf s asked found notes.now → IsBelowUpper s asked found j) }
+{
+    match notes.below() {
+        Some(number) if from <= number && number < above => Some(number),
+        _ => None,
+    }
+}
+
+/// Asks until the answer is decided, and then below the upper bound, while installations are found there.
 fn ask_all<D: Desk>(
     repairing: &Repairing<'_>,
     words: &Words,
@@ -86,13 +136,17 @@ fn ask_all<D: Desk>(
     ensures grows { Grows (D.view desk.old) (D.view desk.new) }
 {
     file_grows();
-    questions_decide();
-    ask_alone(repairing, words, notes, inquirer, desk)?;
-    for number in 0..words.most() + 1 {
-        if repairing.is_decided(notes) {
-            return Ok(());
+    let from = ask_up(repairing, words, notes, inquirer, desk)?;
+    let most = words.most();
+    let mut above = most + 1;
+    for _ in 0..most + 1 {
+        match number_below(notes, from, above) {
+            Some(number) => {
+                ask_at(repairing, words, notes, inquirer, desk, number)?;
+                above = number;
+            }
+            None => return Ok(()),
         }
-        ask_at(repairing, words, notes, inquirer, desk, number)?;
     }
     Ok(())
 }

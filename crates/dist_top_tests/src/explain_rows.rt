@@ -55,12 +55,42 @@ apart d3=1 d5=1
 apart d4=1 d5=1
 ";
 
+/// A program that needs two, which are each kept out by a name that nobody has, one of them through two others.
+const TWO_CAUSES: &str = "Package: a
+Version: 1
+Depends: gone
+
+Package: b
+Version: 1
+Depends: a
+
+Package: c
+Version: 1
+Depends: b
+
+Package: d
+Version: 1
+Depends: lost
+
+Package: p
+Version: 1
+Depends: c, d
+";
+
 const ANSWERS: &[Row] = &[
     EXPLAINED,
     // A package that nobody needs for it leaves no relation.
     Row {
         packages: "Package: a\nVersion: 1\nDepends: b\n\nPackage: b\nVersion: 1\nConflicts: a\n\nPackage: z\nVersion: 1\nDepends: a\n",
         after: After::Begins("distfuture-explain 1 10000 3 3 1\nq 1 4 5 6\nf "),
+        ..EXPLAINED
+    },
+    // Of two causes the shorter one is told.
+    Row {
+        words: &["explain", "packages", "cert", "--package", "p=1"],
+        packages: TWO_CAUSES,
+        out: "package p=1\nbroken\nneeds d=1: lost\nneeds p=1: d\n",
+        after: After::Begins("distfuture-explain 1 10000 5 6 5\nq 5 6 7 8 9 10 11\nf "),
         ..EXPLAINED
     },
     Row {

@@ -1,76 +1,83 @@
-use Rattle.std.proofs.Common.{◌∙◌, ℕ, Result, IfErr, arith, sym, subst}
+use Rattle.std.proofs.Common.{◌≡◌, ◌∙◌, ℕ, ◌+◌, Result, IfErr, arith, ap, sym, subst}
 use Rattle.dist_outside.specs.DeskView.{DeskView}
 use Rattle.dist_outside.specs.Files.{IsWriting}
 use Rattle.dist_outside.specs.declared.trouble.WorkError.{WorkError}
-use Rattle.std.proofs.lemmas.Bool.{false≢true}
 use Rattle.dist_sweep.specs.ScriptLaws.{by-exit, two-grow}
-use Rattle.dist_repair_search.specs.SearchPrivate.{AloneStops, AreOver}
-use Rattle.dist_repair_search.proofs.SearchLemmas.{comes-further, ends-decided, ends-last, stops-further}
+use Rattle.dist_repair.specs.RepairFiles.{asked_by}
+use Rattle.dist_repair_search.specs.SearchPrivate.{AloneStops, AreOver, DownTo}
+use Rattle.dist_repair_search.proofs.SearchLemmas.{comes-down, ends-down, stops-down}
 use Rattle.dist_repair_search.proofs.search.ask_all.Goals as goal
 
-pub loop-number-init : goal.loop-number-init
-loop-number-init g c = record {
-  come = c.in_ok-ask_alone.ensures.ok;
-  variables = c.in_ok-ask_alone.ensures.variables;
-  limit = c.in_ok-ask_alone.ensures.same_limit;
-  writing = subst IsWriting (sym c.ask_alone.ensures.grows.1.mode_stays) c.requires.writing;
-  grows = c.ask_alone.ensures.grows;
-}
+pub loop-init : goal.loop-init
+loop-init g c =
+    let same : c.args.words.now.most + 1 ≡ c.most-most.result + 1 = ap (λ (k : ℕ). k + 1) (sym c.most-most.ensures.value) in
+    let most = c.most-most.ensures.value in record {
+      come = subst (λ (k : ℕ). DownTo c.args.repairing.now.space.now c.args.words.now c.args.notes.now (g.D.Desk.view c.args.desk.now)
+          c.args.inquirer.now c.in_ok-from.from k c.ask_up.new.notes (g.D.Desk.view c.ask_up.new.desk) c.ask_up.new.inquirer) same
+          c.in_ok-from.ensures.ok;
+      above = omega (arith, most);
+      variables = c.in_ok-from.ensures.variables;
+      limit = c.in_ok-from.ensures.same_limit;
+      writing = subst IsWriting (sym c.ask_up.ensures.grows.1.mode_stays) c.requires.writing;
+      grows = c.ask_up.ensures.grows;
+    }
 
-pub returns-in_err-ask_alone-clause-err : goal.returns-in_err-ask_alone-clause-err
-returns-in_err-ask_alone-clause-err g c =
+pub returns-in_err-from-clause-err : goal.returns-in_err-from-clause-err
+returns-in_err-from-clause-err g c =
     let old : DeskView = g.D.Desk.view c.args.desk.now in
-    let new : DeskView = g.D.Desk.view c.ask_alone.new.desk in
+    let new : DeskView = g.D.Desk.view c.ask_up.new.desk in
     by-exit (λ (r : Result (Unit {0}) WorkError). IfErr r (AloneStops c.args.repairing.now.space.now c.args.words.now c.args.notes.now old new
-    c.args.inquirer.now)) c.from_residual.result c.in_err-ask_alone.field-0.0 c.from_residual.ensures.1 c.in_err-ask_alone.ensures.err
+    c.args.inquirer.now)) c.from_residual.result c.in_err-from.field-0.0 c.from_residual.ensures.1 c.in_err-from.ensures.err
 
 pub ask_at-requires-clause-over : goal.ask_at-requires-clause-over
-ask_at-requires-clause-over g c = subst (λ (n : ℕ). AreOver n c.args.words.now) (sym c.loop-number.invariant.variables) c.requires.over
+ask_at-requires-clause-over g c = subst (λ (n : ℕ). AreOver n c.args.words.now) (sym c.loop.invariant.variables) c.requires.over
 
-pub returns-then-is_decided-clause-ok : goal.returns-then-is_decided-clause-ok
-returns-then-is_decided-clause-ok g c =
-    ends-decided c.file_grows.ensures.twice c.args.repairing.now.space.now c.args.words.now c.args.notes.now (g.D.Desk.view c.args.desk.now)
-    c.args.inquirer.now c.loop-number.number c.loop-number.notes (g.D.Desk.view c.loop-number.desk) c.loop-number.inquirer c.loop-number.invariant.come
-    (λ numbers found are. (c.is_decided.ensures numbers found are).0 c.if-is_decided.true)
+pub ask_at-requires-clause-number : goal.ask_at-requires-clause-number
+ask_at-requires-clause-number g c = omega (arith, c.in-Some.ensures.less, c.loop.invariant.above)
 
-pub returns-in_err-ask_at-clause-err : goal.returns-in_err-ask_at-clause-err
-returns-in_err-ask_at-clause-err g c =
+pub returns-in-None-clause-ok : goal.returns-in-None-clause-ok
+returns-in-None-clause-ok g c =
+    ends-down c.file_grows.ensures.twice c.args.repairing.now.space.now c.args.words.now c.args.notes.now (g.D.Desk.view c.args.desk.now)
+    c.args.inquirer.now c.in_ok-from.from c.loop.above c.loop.notes (g.D.Desk.view c.loop.desk) c.loop.inquirer c.loop.invariant.come
+
+pub returns-in_err-ask_at-in-Some-clause-err : goal.returns-in_err-ask_at-in-Some-clause-err
+returns-in_err-ask_at-in-Some-clause-err g c =
     let s = c.args.repairing.now.space.now in
     let old : DeskView = g.D.Desk.view c.args.desk.now in
-    let mid : DeskView = g.D.Desk.view c.loop-number.desk in
+    let mid : DeskView = g.D.Desk.view c.loop.desk in
     let new : DeskView = g.D.Desk.view c.ask_at.new.desk in
     by-exit (λ (r : Result (Unit {0}) WorkError). IfErr r (AloneStops s c.args.words.now c.args.notes.now old new c.args.inquirer.now))
-    c.from_residual-in_err-ask_at.result c.in_err-ask_at.field-0.0 c.from_residual-in_err-ask_at.ensures.1
-    (stops-further c.file_grows.ensures.twice s c.args.words.now c.args.notes.now old c.args.inquirer.now c.loop-number.number c.loop-number.notes mid new
-    c.loop-number.inquirer c.in_err-ask_at.field-0.0 c.loop-number.invariant.come c.in_err-ask_at.ensures.err
-    (λ numbers found are decided. false≢true (sym c.if-is_decided.false ∙ (c.is_decided.ensures numbers found are).1 decided)))
+    c.from_residual-in_err-ask_at-in-Some.result c.in_err-ask_at-in-Some.field-0.0 c.from_residual-in_err-ask_at-in-Some.ensures.1
+    (stops-down c.file_grows.ensures.twice s c.args.words.now c.args.notes.now old c.args.inquirer.now c.in_ok-from.from c.loop.above c.in-Some.number
+    c.loop.notes mid new c.loop.inquirer c.loop.invariant.come c.in-Some.ensures.from c.in-Some.ensures.less
+    (λ numbers found are. c.in-Some.ensures.below s (asked_by numbers) found are) c.in_err-ask_at-in-Some.field-0.0
+    c.in_err-ask_at-in-Some.ensures.lower_err)
 
-pub returns-in_err-ask_at-clause-grows : goal.returns-in_err-ask_at-clause-grows
-returns-in_err-ask_at-clause-grows g c =
-    two-grow c.file_grows.ensures.twice c.loop-number.invariant.grows.0 c.ask_at.ensures.grows.0 (g.D.Desk.view c.args.desk.now)
-    (g.D.Desk.view c.loop-number.desk) (g.D.Desk.view c.ask_at.new.desk) c.loop-number.invariant.grows.1 c.ask_at.ensures.grows.1
+pub returns-in_err-ask_at-in-Some-clause-grows : goal.returns-in_err-ask_at-in-Some-clause-grows
+returns-in_err-ask_at-in-Some-clause-grows g c =
+    two-grow c.file_grows.ensures.twice c.loop.invariant.grows.0 c.ask_at.ensures.grows.0 (g.D.Desk.view c.args.desk.now)
+    (g.D.Desk.view c.loop.desk) (g.D.Desk.view c.ask_at.new.desk) c.loop.invariant.grows.1 c.ask_at.ensures.grows.1
 
-pub loop-number-preserved : goal.loop-number-preserved
-loop-number-preserved g c =
+pub loop-preserved : goal.loop-preserved
+loop-preserved g c =
     let s = c.args.repairing.now.space.now in
     let old : DeskView = g.D.Desk.view c.args.desk.now in
-    let mid : DeskView = g.D.Desk.view c.loop-number.desk in
+    let mid : DeskView = g.D.Desk.view c.loop.desk in
     let new : DeskView = g.D.Desk.view c.ask_at.new.desk in
     record {
-      come = comes-further c.file_grows.ensures.twice s c.args.words.now c.args.notes.now old c.args.inquirer.now c.loop-number.number
-          c.loop-number.notes c.ask_at.new.notes mid new c.loop-number.inquirer c.ask_at.new.inquirer c.loop-number.invariant.come c.in_ok-ask_at.ensures.ok
-          (λ numbers found are decided. false≢true (sym c.if-is_decided.false ∙ (c.is_decided.ensures numbers found are).1 decided));
-      variables = c.in_ok-ask_at.ensures.variables ∙ c.loop-number.invariant.variables;
-      limit = c.in_ok-ask_at.ensures.same_limit ∙ c.loop-number.invariant.limit;
-      writing = subst IsWriting (sym c.ask_at.ensures.grows.1.mode_stays) c.loop-number.invariant.writing;
-      grows = two-grow c.file_grows.ensures.twice c.loop-number.invariant.grows.0 c.ask_at.ensures.grows.0 old mid new
-          c.loop-number.invariant.grows.1 c.ask_at.ensures.grows.1;
+      come = comes-down c.file_grows.ensures.twice s c.args.words.now c.args.notes.now old c.args.inquirer.now c.in_ok-from.from c.loop.above
+          c.in-Some.number c.loop.notes mid new c.loop.inquirer c.loop.invariant.come c.in-Some.ensures.from c.in-Some.ensures.less
+          (λ numbers found are. c.in-Some.ensures.below s (asked_by numbers) found are) c.ask_at.new.notes c.ask_at.new.inquirer
+          c.in_ok-ask_at-in-Some.ensures.lower;
+      above = omega (arith, c.in-Some.ensures.less, c.loop.invariant.above);
+      variables = c.in_ok-ask_at-in-Some.ensures.variables ∙ c.loop.invariant.variables;
+      limit = c.in_ok-ask_at-in-Some.ensures.same_limit ∙ c.loop.invariant.limit;
+      writing = subst IsWriting (sym c.ask_at.ensures.grows.1.mode_stays) c.loop.invariant.writing;
+      grows = two-grow c.file_grows.ensures.twice c.loop.invariant.grows.0 c.ask_at.ensures.grows.0 old mid new c.loop.invariant.grows.1
+          c.ask_at.ensures.grows.1;
     }
 
 pub returns-clause-ok : goal.returns-clause-ok
 returns-clause-ok g c =
-    let s = c.args.repairing.now.space.now in
-    let most = c.most-number-end.ensures.value in
-    ends-last c.file_grows.ensures.twice s c.args.words.now c.args.notes.now (g.D.Desk.view c.args.desk.now) c.args.inquirer.now
-    (c.questions_decide.ensures.last s) c.loop-number.number c.loop-number.notes (g.D.Desk.view c.loop-number.desk) c.loop-number.inquirer
-    c.loop-number.invariant.come (omega (arith, most))
+    ends-down c.file_grows.ensures.twice c.args.repairing.now.space.now c.args.words.now c.args.notes.now (g.D.Desk.view c.args.desk.now)
+    c.args.inquirer.now c.in_ok-from.from c.loop.above c.loop.notes (g.D.Desk.view c.loop.desk) c.loop.inquirer c.loop.invariant.come

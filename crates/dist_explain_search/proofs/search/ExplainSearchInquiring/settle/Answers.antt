@@ -54,8 +54,8 @@ returns-in_err-hints-clause-err g c =
     (first-next asked)
     (subst (λ (ns : List ℕ). AskStops c.args.inquirer.now (question_of asked ns) old new c.in_err-hints.field-0.0) is c.in_err-hints.ensures.err))
 
-pub narrow-requires-clause-numbers : goal.narrow-requires-clause-numbers
-narrow-requires-clause-numbers g c =
+pub find_core-requires-clause-numbers : goal.find_core-requires-clause-numbers
+find_core-requires-clause-numbers g c =
     subst (λ (k : Asked). AreNumbers k c.in_ok-all.all.items) (sym c.ask.ensures.asked)
     (subst (AreNumbers c.args.self.now.asked) (sym c.in_ok-all.ensures) (all-are c.args.self.now.asked))
 
@@ -65,7 +65,7 @@ returns-in_err-core-in-Refuted-clause-err g c =
     let all : List ℕ = all_of asked in
     let old : DeskView = g.D.Desk.view c.args.desk.now in
     let mid : DeskView = g.D.Desk.view c.ask.new.desk in
-    let new : DeskView = g.D.Desk.view c.narrow.new.desk in
+    let new : DeskView = g.D.Desk.view c.find_core.new.desk in
     let is = c.deref.ensures.value ∙ c.in_ok-all.ensures in
     let more = told-of old mid c.args.inquirer.now c.ask.new.inquirer c.args.self.now.notes c.ask.new.self.notes asked c.deref.result.now all
     c.in_ok-hints.field-0 (answers.Refuted c.in-Refuted.hints) is c.in-Refuted.is c.in_ok-hints.ensures.ok in
@@ -82,8 +82,8 @@ returns-in_err-core-in-Refuted-clause-err g c =
 
 pub returns-in_err-core-in-Refuted-clause-grows : goal.returns-in_err-core-in-Refuted-clause-grows
 returns-in_err-core-in-Refuted-clause-grows g c =
-    two-grow c.file_grows.ensures.twice c.ask.ensures.grows.0 c.narrow.ensures.grows.0 (g.D.Desk.view c.args.desk.now) (g.D.Desk.view c.ask.new.desk)
-    (g.D.Desk.view c.narrow.new.desk) c.ask.ensures.grows.1 c.narrow.ensures.grows.1
+    two-grow c.file_grows.ensures.twice c.ask.ensures.grows.0 c.find_core.ensures.grows.0 (g.D.Desk.view c.args.desk.now) (g.D.Desk.view c.ask.new.desk)
+    (g.D.Desk.view c.find_core.new.desk) c.ask.ensures.grows.1 c.find_core.ensures.grows.1
 
 pub returns-in-Found-clause-ok : goal.returns-in-Found-clause-ok
 returns-in-Found-clause-ok g c =
@@ -115,26 +115,26 @@ returns-in_ok-core-in-Refuted-clause-ok g c =
     let core : List ℕ = c.in_ok-core-in-Refuted.core.items in
     let old : DeskView = g.D.Desk.view c.args.desk.now in
     let mid : DeskView = g.D.Desk.view c.ask.new.desk in
-    let late : DeskView = g.D.Desk.view c.narrow.new.desk in
+    let late : DeskView = g.D.Desk.view c.find_core.new.desk in
     let new : DeskView = g.D.Desk.view c.settle_core.new.desk in
     let a : AskerView = c.args.inquirer.now in
     let n : NotesView = c.args.self.now.notes in
     let is = c.deref.ensures.value ∙ c.in_ok-all.ensures in
     let more = told-of old mid a c.ask.new.inquirer n c.ask.new.self.notes asked c.deref.result.now all c.in_ok-hints.field-0
     (answers.Refuted c.in-Refuted.hints) is c.in-Refuted.is c.in_ok-hints.ensures.ok in
-    let same : c.narrow.new.self.asked ≡ asked = c.narrow.ensures.asked ∙ c.ask.ensures.asked in
+    let same : c.find_core.new.self.asked ≡ asked = c.find_core.ensures.asked ∙ c.ask.ensures.asked in
     let first = first-refuted asked old mid a c.ask.new.inquirer n c.ask.new.self.notes c.in-Refuted.hints c.requires.fits.upto more in
-    let second = subst (λ (k : Asked). Goes k (HasJust k all) (Marks k core []) mid late c.ask.new.inquirer c.narrow.new.inquirer c.ask.new.self.notes
-    c.narrow.new.self.notes) c.ask.ensures.asked
+    let second = subst (λ (k : Asked). Goes k (HasJust k all) (Marks k core []) mid late c.ask.new.inquirer c.find_core.new.inquirer c.ask.new.self.notes
+    c.find_core.new.self.notes) c.ask.ensures.asked
     (subst (λ (ns : List ℕ). Goes c.ask.new.self.asked (HasJust c.ask.new.self.asked ns) (Marks c.ask.new.self.asked core []) mid late c.ask.new.inquirer
-    c.narrow.new.inquirer c.ask.new.self.notes c.narrow.new.self.notes) c.in_ok-all.ensures c.in_ok-core-in-Refuted.ensures.ok) in
+    c.find_core.new.inquirer c.ask.new.self.notes c.find_core.new.self.notes) c.in_ok-all.ensures c.in_ok-core-in-Refuted.ensures.ok) in
     on_ok_weaker c.settle_core.result (λ goes.
     settled-by r asked old new a n c.settle_core.new.inquirer c.settle_core.new.self.notes
-    (goes-join c.file_grows.ensures.twice asked IsStart (Marks asked core []) (IsAnsweredAt asked) old late new a c.narrow.new.inquirer
-    c.settle_core.new.inquirer n c.narrow.new.self.notes c.settle_core.new.self.notes
-    (goes-join c.file_grows.ensures.twice asked IsStart (HasJust asked all) (Marks asked core []) old mid late a c.ask.new.inquirer c.narrow.new.inquirer
-    n c.ask.new.self.notes c.narrow.new.self.notes first second)
-    (subst (λ (k : Asked). Goes k (Marks k core []) (IsAnsweredAt k) late new c.narrow.new.inquirer c.settle_core.new.inquirer c.narrow.new.self.notes
+    (goes-join c.file_grows.ensures.twice asked IsStart (Marks asked core []) (IsAnsweredAt asked) old late new a c.find_core.new.inquirer
+    c.settle_core.new.inquirer n c.find_core.new.self.notes c.settle_core.new.self.notes
+    (goes-join c.file_grows.ensures.twice asked IsStart (HasJust asked all) (Marks asked core []) old mid late a c.ask.new.inquirer c.find_core.new.inquirer
+    n c.ask.new.self.notes c.find_core.new.self.notes first second)
+    (subst (λ (k : Asked). Goes k (Marks k core []) (IsAnsweredAt k) late new c.find_core.new.inquirer c.settle_core.new.inquirer c.find_core.new.self.notes
     c.settle_core.new.self.notes) same goes))) c.settle_core.ensures.ok
 
 pub returns-in_ok-core-in-Refuted-clause-err : goal.returns-in_ok-core-in-Refuted-clause-err
@@ -145,33 +145,34 @@ returns-in_ok-core-in-Refuted-clause-err g c =
     let core : List ℕ = c.in_ok-core-in-Refuted.core.items in
     let old : DeskView = g.D.Desk.view c.args.desk.now in
     let mid : DeskView = g.D.Desk.view c.ask.new.desk in
-    let late : DeskView = g.D.Desk.view c.narrow.new.desk in
+    let late : DeskView = g.D.Desk.view c.find_core.new.desk in
     let new : DeskView = g.D.Desk.view c.settle_core.new.desk in
     let a : AskerView = c.args.inquirer.now in
     let n : NotesView = c.args.self.now.notes in
     let is = c.deref.ensures.value ∙ c.in_ok-all.ensures in
     let more = told-of old mid a c.ask.new.inquirer n c.ask.new.self.notes asked c.deref.result.now all c.in_ok-hints.field-0
     (answers.Refuted c.in-Refuted.hints) is c.in-Refuted.is c.in_ok-hints.ensures.ok in
-    let same : c.narrow.new.self.asked ≡ asked = c.narrow.ensures.asked ∙ c.ask.ensures.asked in
+    let same : c.find_core.new.self.asked ≡ asked = c.find_core.ensures.asked ∙ c.ask.ensures.asked in
     let first = first-refuted asked old mid a c.ask.new.inquirer n c.ask.new.self.notes c.in-Refuted.hints c.requires.fits.upto more in
-    let second = subst (λ (k : Asked). Goes k (HasJust k all) (Marks k core []) mid late c.ask.new.inquirer c.narrow.new.inquirer c.ask.new.self.notes
-    c.narrow.new.self.notes) c.ask.ensures.asked
+    let second = subst (λ (k : Asked). Goes k (HasJust k all) (Marks k core []) mid late c.ask.new.inquirer c.find_core.new.inquirer c.ask.new.self.notes
+    c.find_core.new.self.notes) c.ask.ensures.asked
     (subst (λ (ns : List ℕ). Goes c.ask.new.self.asked (HasJust c.ask.new.self.asked ns) (Marks c.ask.new.self.asked core []) mid late c.ask.new.inquirer
-    c.narrow.new.inquirer c.ask.new.self.notes c.narrow.new.self.notes) c.in_ok-all.ensures c.in_ok-core-in-Refuted.ensures.ok) in
-    IfErr-weaker c.settle_core.result (GoesNot c.narrow.new.self.asked (Marks c.narrow.new.self.asked core []) late new c.narrow.new.inquirer
-    c.narrow.new.self.notes)
+    c.find_core.new.inquirer c.ask.new.self.notes c.find_core.new.self.notes) c.in_ok-all.ensures c.in_ok-core-in-Refuted.ensures.ok) in
+    IfErr-weaker c.settle_core.result (GoesNot c.find_core.new.self.asked (Marks c.find_core.new.self.asked core []) late new c.find_core.new.inquirer
+    c.find_core.new.self.notes)
     (SettleStops (explanation_files r) (λ numbers. (asked ≡ asked_by numbers) × AreNotesOf (asked_by numbers) [] n)
     (λ numbers. IsNextQuestion (asked_by numbers)) old new a) (λ error stops.
     settle-stops-by r asked old new a n error
-    (goes-stop c.file_grows.ensures.twice asked IsStart (Marks asked core []) old late new a c.narrow.new.inquirer n c.narrow.new.self.notes error
-    (goes-join c.file_grows.ensures.twice asked IsStart (HasJust asked all) (Marks asked core []) old mid late a c.ask.new.inquirer c.narrow.new.inquirer
-    n c.ask.new.self.notes c.narrow.new.self.notes first second)
-    (subst (λ (k : Asked). GoesNot k (Marks k core []) late new c.narrow.new.inquirer c.narrow.new.self.notes error) same stops))) c.settle_core.ensures.err
+    (goes-stop c.file_grows.ensures.twice asked IsStart (Marks asked core []) old late new a c.find_core.new.inquirer n c.find_core.new.self.notes error
+    (goes-join c.file_grows.ensures.twice asked IsStart (HasJust asked all) (Marks asked core []) old mid late a c.ask.new.inquirer c.find_core.new.inquirer
+    n c.ask.new.self.notes c.find_core.new.self.notes first second)
+    (subst (λ (k : Asked). GoesNot k (Marks k core []) late new c.find_core.new.inquirer c.find_core.new.self.notes error) same stops)))
+    c.settle_core.ensures.err
 
 pub returns-in_ok-core-in-Refuted-clause-grows : goal.returns-in_ok-core-in-Refuted-clause-grows
 returns-in_ok-core-in-Refuted-clause-grows g c =
     let twice = c.file_grows.ensures.twice in
-    let both = two-grow twice c.ask.ensures.grows.0 c.narrow.ensures.grows.0 (g.D.Desk.view c.args.desk.now) (g.D.Desk.view c.ask.new.desk)
-    (g.D.Desk.view c.narrow.new.desk) c.ask.ensures.grows.1 c.narrow.ensures.grows.1 in
-    two-grow twice both.0 c.settle_core.ensures.grows.0 (g.D.Desk.view c.args.desk.now) (g.D.Desk.view c.narrow.new.desk)
+    let both = two-grow twice c.ask.ensures.grows.0 c.find_core.ensures.grows.0 (g.D.Desk.view c.args.desk.now) (g.D.Desk.view c.ask.new.desk)
+    (g.D.Desk.view c.find_core.new.desk) c.ask.ensures.grows.1 c.find_core.ensures.grows.1 in
+    two-grow twice both.0 c.settle_core.ensures.grows.0 (g.D.Desk.view c.args.desk.now) (g.D.Desk.view c.find_core.new.desk)
     (g.D.Desk.view c.settle_core.new.desk) both.1 c.settle_core.ensures.grows.1
