@@ -76,7 +76,12 @@ true-within row q is = elim (cases_lt q (length row)) [
 ]
 
 in-range : (n q : ℕ) → q < n → is_among (range_with_len 0 n) q ≡ true
-in-range n q within = any-from q (range_with_len 0 n) (q, omega (arith, within, length-range_with_len 0 n), get_or-range_with_len 0 n q q within ∙ (let e : 0 + q ≡ q = omega arith in e))
+in-range n q within = any-from q (range_with_len 0 n) (
+  q,
+  omega (arith, within, length-range_with_len 0 n),
+  get_or-range_with_len 0 n q q within ∙ (let e : 0 +
+      q ≡ q = omega arith in e),
+)
 
 pub among-true : (row : List Bool) (q : ℕ) → is_among (true_places row) q ≡ value_at row q
 among-true row q =
@@ -162,7 +167,8 @@ cleared-past row place past = places-left (λ q. not (q == place)) row row refl 
 
 range-more : (a n : ℕ) → range_with_len a (suc n) ≡ range_with_len a n ++ (a + n) ∷ []
 range-more a zero = ap (λ (k : ℕ). k ∷ []) (let e : a ≡ a + 0 = omega arith in e)
-range-more a (suc n) = ap (λ (ns : List ℕ). a ∷ ns) (range-more (a + 1) n ∙ ap (λ (k : ℕ). range_with_len (a + 1) n ++ k ∷ []) (let e : a + 1 + n ≡ a + suc n = omega arith in e))
+range-more a (suc n) = ap (λ (ns : List ℕ). a ∷ ns) (range-more (a + 1) n ∙ ap (λ (k : ℕ). range_with_len (a + 1) n ++ k ∷ []) (let e : a + 1 + n ≡ a + suc n =
+    omega arith in e))
 
 filter-push : (f : ℕ → Bool) (xs : List ℕ) (x : ℕ) → filter f (xs ++ x ∷ []) ≡ filter f xs ++ (if f x then x ∷ [] else [])
 filter-push f [] x = refl

@@ -26,7 +26,8 @@ put_derived-requires-clause-derived g c =
     let adds = c.ask_with-answer.ensures.adds in
     subst (λ (l : ClauseLog). AreDerived l.clauses c.derived.result.now) (sym c.log-3.ensures.value)
     (subst (λ (d : List DerivedLine). AreDerived new.clauses d) (sym c.derived.ensures)
-    (derived-over c.args.solver.now.log.clauses adds.lines c.ask_with-answer.new.self.derived new.clauses adds.follow (ap (λ (l : ClauseLog). l.clauses) adds.log)))
+    (derived-over c.args.solver.now.log.clauses adds.lines c.ask_with-answer.new.self.derived new.clauses adds.follow (ap (λ (l : ClauseLog). l.clauses)
+    adds.log)))
 
 pub returns-in_err-put_derived-clause-err : goal.returns-in_err-put_derived-clause-err
 returns-in_err-put_derived-clause-err g c =
@@ -60,7 +61,8 @@ returns-in-Ok-clause-ok g c =
     let lines = same-lines c.log-3.result.now new c.derived.result.now ds c.log-3.ensures.value c.derived.ensures in
     derives c.args.solver.now.log new ds c.args.assumptions.now c.args.limit first last c.args.writer.now c.put_derived.new.writer
     c.in-Ok.answer c.ask_with-answer.ensures.adds small
-    (subst (λ (r : Result Answer AskError). IsAnswer c.args.solver.now.log new c.args.assumptions.now c.args.limit r) c.in-Ok.is c.ask_with-answer.ensures.answer)
+    (subst (λ (r : Result Answer AskError). IsAnswer c.args.solver.now.log new c.args.assumptions.now c.args.limit r) c.in-Ok.is
+    c.ask_with-answer.ensures.answer)
     (subst (λ (ls : List CertRecord). FileGrew (lines_text ls) first last) lines c.in_ok-put_derived.ensures.grew)
     (subst (λ (ls : List CertRecord). PutAll c.args.writer.now c.put_derived.new.writer ls) lines c.in_ok-put_derived.ensures.ok)
 
@@ -85,6 +87,7 @@ returns-in-Err-clause-err g c =
     subst (λ (e : WorkError). DerivesNone c.args.solver.now.log c.args.assumptions.now c.args.limit first last c.args.writer.now e) (sym c.work_error.ensures)
     (derives-none c.file_grows.ensures.begin c.file_grows.ensures.twice c.args.solver.now.log new ds c.args.assumptions.now c.args.limit first last
     c.args.writer.now c.put_derived.new.writer c.in-Err.error c.ask_with-answer.ensures.adds small
-    (subst (λ (r : Result Answer AskError). IsAnswer c.args.solver.now.log new c.args.assumptions.now c.args.limit r) c.in-Err.is c.ask_with-answer.ensures.answer)
+    (subst (λ (r : Result Answer AskError). IsAnswer c.args.solver.now.log new c.args.assumptions.now c.args.limit r) c.in-Err.is
+    c.ask_with-answer.ensures.answer)
     (subst (λ (ls : List CertRecord). FileGrew (lines_text ls) first last) lines c.in_ok-put_derived.ensures.grew)
     (subst (λ (ls : List CertRecord). PutAll c.args.writer.now c.put_derived.new.writer ls) lines c.in_ok-put_derived.ensures.ok))
