@@ -6,8 +6,8 @@ Usage: explain-brute.py PROGRAM [ARCHIVES [SEED]]
 Of each package of an archive, at several numbers of `--limit`: `installable` is true; the relations listed explain the package, over all sets of
 packages that have it; and each one that is not marked is needed. With a limit above 3 to the power of packages and relations, there is no mark.
 `check-explain` prints the same of the file, and what it prints of an edited file that it accepts is true. tools/recheck says the same of each edited
-file. It prints how many answers of each form
-agreed; at the first that does not it prints the files and ends with 1.
+file. It prints how many answers of each form agreed, how many relations were told, and how many are the fewest that explain the same packages; at the
+first answer that does not agree it prints the files and ends with 1.
 """
 import collections
 import sys
@@ -52,6 +52,17 @@ class Relations:
             places.append(at)
             at += 1
         return places
+
+    def least(self, k, most):
+        """The fewest relations that explain package k, where so many do."""
+        masks = {self.failed[s] for s in range(1 << self.count) if s >> k & 1}
+        masks = sorted((mask for mask in masks if not any(other != mask and other & mask == other for other in masks)), key=int.bit_count)
+        return next(size for size in range(1, most + 1) if self.meets_all(masks, 0, size))
+
+    def meets_all(self, masks, chosen, size):
+        """Whether so many relations, and those that are chosen, meet all masks."""
+        mask = next((mask for mask in masks if not mask & chosen), 0)
+        return not mask or size > 0 and any(self.meets_all(masks, chosen | 1 << r, size - 1) for r in small.bits(mask))
 
     def untrue(self, k, lines, is_exact):
         """What is wrong with the lines that are printed of package k behind its own, or None."""
@@ -128,6 +139,9 @@ def one(runner, draw, tried):
             raise Differs(f"{told}\ncheck-explain: {again}")
         tried[lines[1]] += 1
         tried["relations"] += len(lines) - 2
+        if lines[1] == "broken" and not answer[0]:
+            tried["relations told without a mark"] += len(lines) - 2
+            tried["the fewest"] += relations.least(k, len(lines) - 2)
         tried["answers with a mark"] += answer[0]
         for _ in range(4):
             other = edited(draw, cert)

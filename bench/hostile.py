@@ -239,6 +239,19 @@ def reaching_a_chain(n, essential=False):
     return packages, f"distfuture-certificate 1 strong {mode} 1 {number} {number} {clauses}\n" + lines
 
 
+def needing_a_chain(n):
+    """A chain of n packages, and n / 4 questions that each need all of it, with a new line on what is near: each leads to one package in two ways."""
+    packages, lines, clauses = "".join(stanza(f"l{k:06}", more=f"Depends: l{k - 1:06}\n" if k else "") for k in range(n)), "", 0
+    for k in range(n // 4):
+        name, first = f"g{k:06}", 4 * k + 1
+        packages += stanza(f"{name}-p", more=f"Depends: {name}-x | {name}-y, l{n - 1:06}\n") + stanza(f"{name}-z")
+        packages += "".join(stanza(f"{name}-{letter}", more=f"Depends: {name}-z\n") for letter in "xy")
+        lines += f"q {first}\nd {first + 3} -{first} 0 {clauses + 3} {clauses + 4} {clauses + 1}\nu\n"
+        clauses += 4
+    number = n // 4 * 4 + n
+    return packages, f"distfuture-certificate 1 strong plain 1 {number} {number} {clauses + n - 1}\n" + lines
+
+
 def behind_a_chain(n):
     """A chain of n packages that each lead to the next one or to one that all lead to, and whose last one leads to n / 4 others; each of these leads to
     one package in two ways; as many questions, each on a package of its own that leads to the chain, with a new line on one of these."""
@@ -432,6 +445,7 @@ ROWS = {
         stanza("p", more="Provides: " + ", ".join(f"e{k}" for k in range(n // 2)) + "\n"), [("p", f"Provides: e{n // 2 - 1}\n")] * (n // 2))),
     "so many questions that reach one chain, each with a new line": (20_000, lambda n: checked(*reaching_a_chain(n))),
     "so many questions that reach one chain, each with a new line behind it": (20_000, lambda n: checked(*behind_a_chain(n))),
+    "so many questions that need one chain, each with a new line": (20_000, lambda n: checked(*needing_a_chain(n))),
     "so many questions beside as many essential packages, each with a new line": (20_000, lambda n: checked(*reaching_a_chain(n, True))),
     "a line of one literal that two questions about so many pairs need": (10_000, lambda n: strong(learned_again(n))),
     "so many packages that need one in conflict with as many": (10_000, lambda n: strong(hub(n, "Conflicts: v\n", loose(n, "Provides: v\n")))),
@@ -491,6 +505,11 @@ def behind_a_large_one(n, more=""):
 
 def one_source(n):
     return "".join(stanza(f"p{k:06}", more="Source: s\n") for k in range(n - 1)) + stanza("q", more="Depends: p000000 (<< 2)\n")
+
+
+def own_bounds(n):
+    """So many packages of one source, and as many that each ask for one of them at a version of their own or later."""
+    return "".join(stanza(f"a{k:06}", more=f"Depends: b{k:06} (>= {k + 1})\n") + stanza(f"b{k:06}", more="Source: s\n") for k in range(n))
 
 
 def all_against_all(n):
@@ -647,6 +666,8 @@ def load_rows():
     # So many versions have the square of the number of conflicts.
     yield "strong on so many versions of one essential package", (1_000, lambda n: (["strong", "packages", "cert", "--essential"], "".join(
         stanza("a", k, "Essential: yes\n") for k in range(n)) + stanza("p"), ""), 2)
+    # Each package names each of the classes, of which there are twice as many.
+    yield "challenged on so many that ask for versions of their own of one source", (240, lambda n: (["challenged", "packages", "cert"], own_bounds(n), ""), 2)
     yield "classes on one stanza too many", (200_001, lambda n: (["classes", "packages"], mixed(n), ""), None)
     yield "classes on one byte too many", (268_435_457, lambda n: (["classes", "packages"], of_bytes(n), ""), None)
     yield "check of one derived line too many", (16_000_001, lambda n: (

@@ -6,8 +6,8 @@ Usage: repair-brute.py PROGRAM [ARCHIVES [SEED]]
 Of each newest package of an archive, at several numbers of `--limit` and `--most`: how many clusters must move for it is what the futures say that
 move each set of clusters to each of the places among the versions that atoms name; so are the bounds, and that it is outdated; and the clusters that
 are told, moved to the versions that are told, are enough. `check-repair` prints the same of the file, and what it prints of an edited file that it
-accepts is true. tools/recheck says the same of each edited file. It prints how many answers of each form agreed; at the first that does not it
-prints the files and ends with 1.
+accepts is true. tools/recheck says the same of each edited file. It prints how many answers of each form agreed, and how far upper bounds are above the
+least numbers; at the first answer that does not agree it prints the files and ends with 1.
 """
 import collections
 import importlib.util
@@ -134,6 +134,9 @@ def one(runner, draw, tried):
         tried[" ".join(word for word in lines[1].split() if not word.isdigit())] += 1
         tried["moves"] += sum(line.startswith("move") for line in lines)
         tried["undecided"] += answer[0]
+        upper = next((number(line, "at most") for line in lines if line.startswith("at most")), None)
+        if upper is not None:
+            tried["upper bounds less the least number"] += upper - moves.least(k)
         for _ in range(4):
             other = edited(draw, cert)
             runner.put("cert", other)
