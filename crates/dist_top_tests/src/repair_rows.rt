@@ -36,7 +36,7 @@ const REPAIRS: &[Row] = &[
         ],
         packages: GROUPS,
         status: Status::DoneWithUndecided,
-        out: "package p=1\nat least 0\nundecided\nat most 1\nmove d1=1 to 1-0A\n",
+        out: "package p=1\nat least 0\nundecided\nat most 1\nmove a1=1 to 1-0A\n",
         after: After::Begins("distfuture-repair 1 1 21 "),
         ..REPAIRED
     },
