@@ -9,7 +9,8 @@ use std::alloc::Global;
 /// Variables to shun, if any are told, and those that are true in the model that is found.
 type Shunning = (Option<&'static [u32]>, &'static [u32]);
 
-/// Of alternatives the last one is tried first, and a clause that is true already leaves no choice.
+/// Of alternatives the last one is tried first, and where all are shunned the first one; a clause that is true already leaves no
+/// choice.
 const CLAUSES: &[&[i32]] = &[&[1, 2], &[3, 4], &[-4, 5]];
 
 const ROWS: &[Shunning] = &[
@@ -19,7 +20,7 @@ const ROWS: &[Shunning] = &[
     (Some(&[4]), &[2, 3]),
     (Some(&[2, 4]), &[1, 3]),
     (Some(&[1, 3]), &[2, 4, 5]),
-    (Some(&[1, 2, 3, 4, 5]), &[2, 4, 5]),
+    (Some(&[1, 2, 3, 4, 5]), &[1, 3]),
 ];
 
 /// Makes a variable true, where there is such a one.
