@@ -136,7 +136,8 @@ none_challenges = record { one_each = refl; each = λ number q claim is claimed.
         unlisted = λ cluster class q version pair outside not_listed not_undecided challenge.
             outside (beside cluster class q version pair);
         others = λ q version challenges. absurd (challenges.outside
-            (subst (λ (x : Package). AreClustered (member_of x) (member_of libx)) (sym (only q challenges.cluster)) itself));
+            (subst (λ (x : Package). AreClustered (member_of x) (member_of libx)) (sym (only q challenges.cluster))
+            itself));
       },
     )
 
