@@ -1,3 +1,4 @@
 mod Lists
 mod NamedLemmas
 mod PartLemmas
+mod SomeList

@@ -61,67 +61,91 @@ same_flags (x ∷ a) (y ∷ b) len to from =
 blank_names_none : (packages : List Package) (line : List ℕ) (number : ℕ) → parts_of line ≡ [] → ¬ Names packages line number
 blank_names_none packages line number blank names = let e = names.spelled in cc
 
+-- no lines name none
+pub none_yet : (packages : List Package) (members : List Bool) → length members ≡ length packages → All (λ member. member ≡ false) members
+    → NameSet packages [] members
+none_yet packages members len none = record {
+  each = λ k d within. absurd (omega arith);
+  one_each = len;
+  named = λ number. (
+    λ is. let f = flag_from members number is in absurd (false≢true (sym (none number true f.0) ∙ f.1)),
+    λ named. absurd (omega (arith, named.1.1)),
+  );
+}
+
 pub ReadSoFar-start : (packages : List Package) (text : List ℕ) (members : List Bool) → length members ≡ length packages
     → All (λ member. member ≡ false) members → ReadSoFar packages text text 1 members
 ReadSoFar-start packages text members len none = record {
   done = [];
   pieces = refl;
-  named = record {
-    each = λ k d within. absurd (omega arith);
-    one_each = len;
-    named = λ number. (
-      λ is. let f = flag_from members number is in absurd (false≢true (sym (none number true f.0) ∙ f.1)),
-      λ named. absurd (omega (arith, named.1.1)),
-    );
-  };
+  named = none_yet packages members len none;
   place = refl;
 }
 
-one_line_more : (packages : List Package) (text rest after line : List ℕ) (number : ℕ) (old new : List Bool) (so_far : ReadSoFar packages text rest number old)
-    → lines rest ≡ line ∷ lines after → IsListLine packages line → length new ≡ length old
-    → ((m : ℕ) → slice_get new m ≡ Some true → IsInList packages (so_far.done ++ line ∷ []) m)
-    → ((m : ℕ) → IsInList packages (so_far.done ++ line ∷ []) m → slice_get new m ≡ Some true)
-    → ReadSoFar packages text after (number + 1) new
-one_line_more packages text rest after line number old new so_far next is_line same to from = record {
+-- the set with one line more
+one_line_more : (packages : List Package) (done : List (List ℕ)) (line : List ℕ) (old new : List Bool) → NameSet packages done old
+    → IsListLine packages line → length new ≡ length old
+    → ((m : ℕ) → slice_get new m ≡ Some true → IsInList packages (done ++ line ∷ []) m)
+    → ((m : ℕ) → IsInList packages (done ++ line ∷ []) m → slice_get new m ≡ Some true)
+    → NameSet packages (done ++ line ∷ []) new
+one_line_more packages done line old new set is_line same to from = record {
+  each = All-push (IsListLine packages) done line set.each is_line;
+  one_each = same ∙ set.one_each;
+  named = λ m. (to m, from m);
+}
+
+-- a blank line names nothing
+pub blank_more : (packages : List Package) (done : List (List ℕ)) (line : List ℕ) (members : List Bool) → NameSet packages done members → parts_of line ≡ []
+    → NameSet packages (done ++ line ∷ []) members
+blank_more packages done line members set blank =
+    one_line_more packages done line members members set (inl blank) refl
+    (λ m is. let n = (set.named m).0 is in (n.0, Contains-append_left done (line ∷ []) n.0 n.1, n.2))
+    (λ m named. elim (Contains-push_cases done line named.0 named.1) [
+      | inl before ↦ (set.named m).1 (named.0, before, named.2)
+      | inr here ↦ absurd (blank_names_none packages line m blank (let N : List ℕ → Type 0 = λ l. Names packages l m in subst N (sym here) named.2))
+    ])
+
+-- a line with a package names it alone
+pub named_more : (packages : List Package) (done : List (List ℕ)) (line : List ℕ) (found : ℕ) (members : List Bool) → NameSet packages done members
+    → Names packages line found → ((other : ℕ) → Names packages line other → other ≡ found) → found < length members
+    → NameSet packages (done ++ line ∷ []) (slice_set members found true)
+named_more packages done line found members set names only within =
+    one_line_more packages done line members (slice_set members found true) set (inr (found, names)) (length-set members found true)
+    (λ m is. elim (cases_eq m found) [
+      | inl same ↦ (line, Contains-push done line, let P : ℕ → Type 0 = Names packages line in subst P (sym same) names)
+      | inr other ↦
+          let n = (set.named m).0 (flag_unset members found m other is) in
+          (n.0, Contains-append_left done (line ∷ []) n.0 n.1, n.2)
+    ])
+    (λ m named. elim (cases_eq m found) [
+      | inl same ↦ let R : ℕ → Type 0 = λ n. slice_get (slice_set members found true) n ≡ Some true in subst R (sym same) (flag_same members found within)
+      | inr other ↦ elim (Contains-push_cases done line named.0 named.1) [
+        | inl before ↦ flag_set members found m other ((set.named m).1 (named.0, before, named.2))
+        | inr here ↦ absurd (other (only m (let N : List ℕ → Type 0 = λ l. Names packages l m in subst N (sym here) named.2)))
+      ]
+    ])
+
+read_more : (packages : List Package) (text rest after line : List ℕ) (number : ℕ) (old new : List Bool) (so_far : ReadSoFar packages text rest number old)
+    → lines rest ≡ line ∷ lines after → NameSet packages (so_far.done ++ line ∷ []) new → ReadSoFar packages text after (number + 1) new
+read_more packages text rest after line number old new so_far next named = record {
   done = so_far.done ++ line ∷ [];
   pieces = so_far.pieces ∙ ap (λ (ls : List (List ℕ)). so_far.done ++ ls) next ∙ sym (append_assoc so_far.done (line ∷ []) (lines after));
-  named = record {
-    each = All-push (IsListLine packages) so_far.done line so_far.named.each is_line;
-    one_each = same ∙ so_far.named.one_each;
-    named = λ m. (to m, from m);
-  };
+  named = named;
   place = let e = so_far.place in omega (arith, e, length-append so_far.done (line ∷ []));
 }
 
 pub ReadSoFar-blank : (packages : List Package) (text rest after line : List ℕ) (number : ℕ) (members : List Bool) → ReadSoFar packages text rest number members
     → lines rest ≡ line ∷ lines after → parts_of line ≡ [] → ReadSoFar packages text after (number + 1) members
 ReadSoFar-blank packages text rest after line number members so_far next blank =
-    one_line_more packages text rest after line number members members so_far next (inl blank) refl
-    (λ m is. let n = (so_far.named.named m).0 is in (n.0, Contains-append_left so_far.done (line ∷ []) n.0 n.1, n.2))
-    (λ m named. elim (Contains-push_cases so_far.done line named.0 named.1) [
-      | inl before ↦ (so_far.named.named m).1 (named.0, before, named.2)
-      | inr here ↦ absurd (blank_names_none packages line m blank (let N : List ℕ → Type 0 = λ l. Names packages l m in subst N (sym here) named.2))
-    ])
+    read_more packages text rest after line number members members so_far next (blank_more packages so_far.done line members so_far.named blank)
 
 pub ReadSoFar-named : (packages : List Package) (text rest after line : List ℕ) (number found : ℕ) (members : List Bool)
     → ReadSoFar packages text rest number members
     → lines rest ≡ line ∷ lines after → Names packages line found → ((other : ℕ) → Names packages line other → other ≡ found) → found < length members
     → ReadSoFar packages text after (number + 1) (slice_set members found true)
 ReadSoFar-named packages text rest after line number found members so_far next names only within =
-    one_line_more packages text rest after line number members (slice_set members found true) so_far next (inr (found, names)) (length-set members found true)
-    (λ m is. elim (cases_eq m found) [
-      | inl same ↦ (line, Contains-push so_far.done line, let P : ℕ → Type 0 = Names packages line in subst P (sym same) names)
-      | inr other ↦
-          let n = (so_far.named.named m).0 (flag_unset members found m other is) in
-          (n.0, Contains-append_left so_far.done (line ∷ []) n.0 n.1, n.2)
-    ])
-    (λ m named. elim (cases_eq m found) [
-      | inl same ↦ let R : ℕ → Type 0 = λ n. slice_get (slice_set members found true) n ≡ Some true in subst R (sym same) (flag_same members found within)
-      | inr other ↦ elim (Contains-push_cases so_far.done line named.0 named.1) [
-        | inl before ↦ flag_set members found m other ((so_far.named.named m).1 (named.0, before, named.2))
-        | inr here ↦ absurd (other (only m (let N : List ℕ → Type 0 = λ l. Names packages l m in subst N (sym here) named.2)))
-      ]
-    ])
+    read_more packages text rest after line number members (slice_set members found true) so_far next
+    (named_more packages so_far.done line found members so_far.named names only within)
 
 pub ReadSoFar-end : (packages : List Package) (text : List ℕ) (number : ℕ) (members : List Bool) → ReadSoFar packages text [] number members
     → NamesSet packages text members

@@ -78,7 +78,7 @@ not-before packages name version n m order first second before =
     let tie = tied a.element b.element name version a.holds.0 b.holds.0 a.holds.1 b.holds.1 in
     cc
 
-one-place : (packages : List Package) (name version : List ℕ) (n m : ℕ) → IsInOrder packages → IsPackageAt packages n name version
+pub one-place : (packages : List Package) (name version : List ℕ) (n m : ℕ) → IsInOrder packages → IsPackageAt packages n name version
     → IsPackageAt packages m name version → m ≡ n
 one-place packages name version n m order first second = elim (cases_lt n m) [
   | inl less ↦ absurd (not-before packages name version n m order first second less)

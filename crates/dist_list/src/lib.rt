@@ -8,6 +8,6 @@ mod line_parts;
 mod list;
 mod named;
 
-pub use laws::{lists_are_exact, names_are_exact};
+pub use laws::{each_list_is_answered, lists_are_exact, names_are_exact};
 pub use list::{ListError, read_list};
 pub use named::package_named;
