@@ -10,15 +10,25 @@ use dist_derive::Log;
 /// Behind all that are shunned.
 const UNSHUNNED: u64 = 1 << 63;
 
+/// Ahead of those that are the last of all.
+const NOT_LAST: u64 = 1 << 32;
+
+/// More uses than these don't count.
+const USES: u32 = 1 << 30;
+
 /// How early an alternative is tried: the higher its variable the earlier. Behind all others those that are shunned: the more open
-/// clauses they make true the earlier, and of these the lower ones.
+/// clauses they make true the earlier, of these the ones that are not to be the last, and of these the lower ones.
 fn rank(literal: Lit, open: &Open, shunned: &Shunned<'_>) -> u64 {
     let variable = literal.variable();
-    if shunned.has(variable) {
-        u64::from(open.count_uses(variable)) << 32 | u64::from(u32::MAX - variable)
-    } else {
-        u64::from(variable) | UNSHUNNED
+    if !shunned.has(variable) {
+        return u64::from(variable) | UNSHUNNED;
     }
+    let early = if shunned.is_last(variable) {
+        0
+    } else {
+        NOT_LAST
+    };
+    u64::from(open.count_uses(variable).min(USES)) << 33 | early | u64::from(u32::MAX - variable)
 }
 
 /// So many alternatives of a long clause are looked at for one that is not shunned.

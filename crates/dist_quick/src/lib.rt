@@ -26,3 +26,4 @@ mod shunned;
 mod trail;
 
 pub use question::{Guess, Quick};
+pub use shunned::Shunning;

@@ -5,7 +5,7 @@ ghost use Rattle.std.specs.Prelude.{◌≡◌, IfSome, length};
 use crate::clauses::is_root;
 use crate::descent::Descent;
 use crate::kept::Kept;
-use crate::shunned::Shunned;
+use crate::shunned::{Shunned, Shunning};
 use dist_clause::{Assignment, Lit};
 use dist_derive::Log;
 use std::alloc::{AllocError, Global};
@@ -36,6 +36,7 @@ pub struct Quick {
     roots: Vec<u32>,
     /// The clauses with numbers up to this have been sorted into the roots.
     sorted: u32,
+    shunning: Shunning,
 }
 
 impl Quick {
@@ -48,7 +49,13 @@ impl Quick {
             descent: Descent::new(alloc, variables)?,
             roots: Vec::new(alloc),
             sorted: 0,
+            shunning: Shunning::none(alloc),
         })
+    }
+
+    /// From now on these variables are shunned, by questions that name none of their own.
+    pub fn shun(&mut self, shunning: Shunning) {
+        self.shunning = shunning;
     }
 
     /// The true variables of a guessed model.
@@ -71,7 +78,8 @@ impl Quick {
         self.ask_shunning(log, assumptions, None)
     }
 
-    /// The same, where of the alternatives of a clause those that are true in an assignment are decided last.
+    /// The same, where of the alternatives of a clause those that are true in an assignment are decided last. Where there is none,
+    /// it is those that all questions shun.
     pub fn ask_shunning(
         &mut self,
         log: &Log,
@@ -80,9 +88,9 @@ impl Quick {
     ) -> Result<Guess, AllocError>
         requires { IfSome shunned (λ values. length values.now ≡ log.now.variables) }
     {
-        let shunned = Shunned::of(shunned, log.variables());
         self.sort(log)?;
         self.at_other = self.is_at_other(log, assumptions)?;
+        let shunned = Shunned::of(shunned, log.variables(), &self.shunning);
         if self.at_other {
             self.descent
                 .guess(log, &mut self.other, &self.roots, assumptions, &shunned)

@@ -12,7 +12,7 @@ use crate::descent::Descent;
 use crate::tested::{Tests, lesson};
 use dist_clause::{Assignment, Lit};
 use dist_derive::{Log, VariableSet};
-use dist_quick::{Guess, Quick};
+use dist_quick::{Guess, Quick, Shunning};
 use dist_watched::{Turn, Watched};
 use std::alloc::{AllocError, Global};
 use std::marker::Model;
@@ -59,6 +59,13 @@ impl Guesses {
                 Err(error)
             }
         }
+    }
+
+    /// From now on these variables are shunned, by questions that name none of their own.
+    pub(crate) fn shun(&mut self, shunning: Shunning)
+        ensures { self.new ≡ self.old }
+    {
+        self.quick.shun(shunning);
     }
 
     /// The answer that the quick phase guesses, where it passes its test. Of alternatives it decides those last that are true in an

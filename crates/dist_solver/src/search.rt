@@ -18,6 +18,7 @@ use crate::trail::Trail;
 use dist_base::{MAX_LINE_LITERALS, MAX_LINES};
 use dist_clause::{Assignment, ClauseSet, Lit};
 use dist_derive::{Log, VariableSet, more_clauses_keep_what_follows, new_lines_are_few};
+use dist_quick::Shunning;
 use std::alloc::{AllocError, Global};
 use std::marker::Model;
 
@@ -98,6 +99,14 @@ impl Solver {
                 Err(error)
             }
         }
+    }
+
+    /// From now on models leave these variables out, as far as the first search meets other alternatives, where a question names none
+    /// of its own.
+    pub fn shun(&mut self, shunning: Shunning)
+        ensures { self.new ≡ self.old }
+    {
+        self.guesses.shun(shunning);
     }
 
     /// Asks for a model in which the assumptions are true, with leave to add at most `limit` lines to the log. Every
