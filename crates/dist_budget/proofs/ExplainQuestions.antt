@@ -22,7 +22,7 @@ use Rattle.dist_findings.specs.FindingLaws.{findings_push, open_after}
 use Rattle.dist_findings.specs.Findings.{findings, findings_behind, found_at, open_behind}
 use Rattle.dist_findings.specs.declared.finding.Finding.{Finding}
 use Rattle.dist_findings.specs.declared.finding.Finding.TheVariants as finding
-use Rattle.dist_inquiry.specs.Inquiry.{AreAsked, Setting, header_in, matter_in}
+use Rattle.dist_line_write.specs.Script.{AreAsked, Script, header_in, matter_in}
 use Rattle.dist_budget.specs.SearchBudget.{explanation_questions}
 use Rattle.dist_budget.proofs.Counts.{asked, asked_in, count-push, count-split}
 use Rattle.dist_budget.proofs.FewNumbers.{few-of, few-upto}
@@ -476,7 +476,7 @@ module _ (of : Asked) (upto : of.number ≤ of.packages) where
 
   -- ---- all lines
 
-  module _ (g : Setting) (steps : List CertRecord) (kept : AreKept (matter_in g) (header_in g) steps) (in_order : AreAsked (IsNextQuestion of) [] steps) where
+  module _ (g : Script) (steps : List CertRecord) (kept : AreKept (matter_in g) (header_in g) steps) (in_order : AreAsked (IsNextQuestion of) [] steps) where
     next-at : (front : List CertRecord) (question : List Word) (back : List CertRecord) → steps ≡ front ++ Question question ∷ back
         → IsNextQuestion of front question
     next-at front question back is = asked-at (IsNextQuestion of) [] front question back (subst (AreAsked (IsNextQuestion of) []) is in_order)

@@ -18,8 +18,9 @@ use Rattle.dist_cert.specs.ListLaws.{contains-cases}
 use Rattle.dist_cert.specs.LineRules.{HasRecordFault}
 use Rattle.dist_cert.specs.SomeVerdictLaws.{split_push}
 use Rattle.dist_cert.specs.Writing.{ended}
-use Rattle.dist_inquiry.specs.Inquiry.{AllNext, AreAsked, Asks, IsLine, IsNextLine, Passes, Setting, header_in, matter_in}
-use Rattle.dist_inquiry.specs.InquiryLaws.{asked-join}
+use Rattle.dist_line_write.specs.Script.{AllNext, AreAsked, Asks, IsLine, IsNextLine, Passes, Script, header_in}
+use Rattle.dist_line_write.specs.Script.{matter_in}
+use Rattle.dist_line_write.specs.ScriptLaws.{asked-join}
 use Rattle.dist_inquiry.specs.Written.{Course, IsFull, MayBeWritten, PassesNext}
 use Rattle.dist_budget.specs.Budget.{FileSize, IsBelowFileBudget, record_budget}
 use Rattle.dist_budget.proofs.Counts.{asked, few-answers, few-claims, few-derived, few-ends}
@@ -30,7 +31,7 @@ use Rattle.dist_budget.proofs.Widths.{all-literals, all-narrow}
 
 -- ---- each line behind those before it
 
-line-at : (g : Setting) (before earlier : List CertRecord) (step : CertRecord) (later : List CertRecord)
+line-at : (g : Script) (before earlier : List CertRecord) (step : CertRecord) (later : List CertRecord)
     → AllNext g before (earlier ++ step ∷ later) → IsLine g (before ++ earlier) step
 line-at g before [] step later all = subst (λ b. IsLine g b step) (sym (append-nil before)) all.0
 line-at g before (x ∷ earlier) step later all =
@@ -45,15 +46,15 @@ asked-at asks before (x ∷ earlier) question later all =
 
 -- ---- what they keep
 
-next-comes : (g : Setting) (before : List CertRecord) (step : CertRecord) → IsNextLine g before step → ComesNext (matter_in g) (header_in g) before step
+next-comes : (g : Script) (before : List CertRecord) (step : CertRecord) → IsNextLine g before step → ComesNext (matter_in g) (header_in g) before step
 next-comes g before (Question question) next = tt
 next-comes g before (Derived literals hints) next = next
 next-comes g before (Refuted hints) next = next
-next-comes g before (Installation variables) next = next
+next-comes g before (Installation variables) next = next.0
 next-comes g before Undecided next = next
 next-comes g before step next = absurd next
 
-line-kept : (g : Setting) (before : List CertRecord) (step : CertRecord) → IsLine g before step → IsKept (matter_in g) (header_in g) before step
+line-kept : (g : Script) (before : List CertRecord) (step : CertRecord) → IsLine g before step → IsKept (matter_in g) (header_in g) before step
 line-kept g before step line = record {
   form = line.form;
   not_ended = no_end_in before line.not_ended;
@@ -61,7 +62,7 @@ line-kept g before step line = record {
   next = next-comes g before step line.next;
 }
 
-end-faultless : (g : Setting) (before : List CertRecord) (cause : CertCause) → ¬ HasRecordFault (matter_in g) (header_in g) before End cause
+end-faultless : (g : Script) (before : List CertRecord) (cause : CertCause) → ¬ HasRecordFault (matter_in g) (header_in g) before End cause
 end-faultless g before causes.OutOfRange fault = omega (arith, fault.2)
 end-faultless g before causes.OutOfOrder fault = omega (arith, fault.2)
 end-faultless g before causes.UnknownLine fault = omega (arith, fault.2)
@@ -69,7 +70,7 @@ end-faultless g before causes.WrongClaim fault = false≢true fault.0
 end-faultless g before causes.Incomplete fault = omega (arith, fault)
 end-faultless g before cause fault = fault
 
-no-end : (g : Setting) (before lines : List CertRecord) → AllNext g before lines → ¬ Contains lines End
+no-end : (g : Script) (before lines : List CertRecord) → AllNext g before lines → ¬ Contains lines End
 no-end g before [] all there = omega (arith, there.1)
 no-end g before (step ∷ lines) all there = elim (contains-cases step lines End there) [
   | inl same ↦ subst (λ s. IsNextLine g before s) same all.0.next
@@ -77,7 +78,7 @@ no-end g before (step ∷ lines) all there = elim (contains-cases step lines End
 ]
 
 -- the end may stand behind lines that are written
-end-kept : (g : Setting) (lines : List CertRecord) → AllNext g [] lines → IsKept (matter_in g) (header_in g) lines End
+end-kept : (g : Script) (lines : List CertRecord) → AllNext g [] lines → IsKept (matter_in g) (header_in g) lines End
 end-kept g lines all = record {
   form = record { text = refl; rules = tt; numbers = All-nil (λ (w : Word). IsSmall w.0) };
   not_ended = no-end g [] lines all;
@@ -85,12 +86,12 @@ end-kept g lines all = record {
   next = tt;
 }
 
-lines-kept : (g : Setting) (lines : List CertRecord) → AllNext g [] lines → AreKept (matter_in g) (header_in g) lines
+lines-kept : (g : Script) (lines : List CertRecord) → AllNext g [] lines → AreKept (matter_in g) (header_in g) lines
 lines-kept g lines all before step after is =
     line-kept g before step (line-at g [] before step after (subst (λ ls. AllNext g [] ls) is all))
 
 -- a line may stand behind others
-kept-push : (g : Setting) (lines : List CertRecord) (last : CertRecord) → AreKept (matter_in g) (header_in g) lines
+kept-push : (g : Script) (lines : List CertRecord) (last : CertRecord) → AreKept (matter_in g) (header_in g) lines
     → IsKept (matter_in g) (header_in g) lines last → AreKept (matter_in g) (header_in g) (lines ++ last ∷ [])
 kept-push g lines last kept next before step after is = elim (split_push lines before after step last is) [
   | inl same ↦ subst (λ s. IsKept (matter_in g) (header_in g) before s) (sym same.1)
@@ -101,13 +102,13 @@ kept-push g lines last kept next before step after is = elim (split_push lines b
 -- ---- where the writing is full
 
 -- Lines that pass a number, with the one that passes it: each is kept, and each question may be asked.
-pub record Passing (g : Setting) (asks : Asks) (what : What) : Type 0 where
+pub record Passing (g : Script) (asks : Asks) (what : What) : Type 0 where
   pub steps : List CertRecord
   pub kept : AreKept (matter_in g) (header_in g) steps
   pub in_order : AreAsked asks [] steps
   pub passes : Passes g steps what
 
-passing-next : (g : Setting) (course : Course) (before : Option (List CertRecord)) (what : What) → MayBeWritten g course before
+passing-next : (g : Script) (course : Course) (before : Option (List CertRecord)) (what : What) → MayBeWritten g course before
     → PassesNext g course before what → Passing g course.asks what
 passing-next g course None what written (line, after, next, passes) = record {
   steps = [];
@@ -134,15 +135,15 @@ passing-next g course (Some lines) what written (line, after, (step, next, text,
   }
 ]
 
-pub passing : (g : Setting) (course : Course) (what : What) (text : List ℕ) → IsFull g course what text → Passing g course.asks what
+pub passing : (g : Script) (course : Course) (what : What) (text : List ℕ) → IsFull g course what text → Passing g course.asks what
 passing g course what text full = passing-next g course full.before what full.written full.passes
 
 -- ---- what is counted
 
-enough : (g : Setting) → HasEnoughVariables (matter_in g) kinds.Outdated
+enough : (g : Script) → HasEnoughVariables (matter_in g) kinds.Outdated
 enough g = record { packages = omega arith; pairs = omega arith; no_others = λ same. cc }
 
-module _ (g : Setting) (size : FileSize) (asks : Asks) (variables : g.inputs.variables ≡ size.variables) (limit : g.limit ≡ size.limit)
+module _ (g : Script) (size : FileSize) (asks : Asks) (variables : g.variables ≡ size.variables) (limit : g.limit ≡ size.limit)
     (first : length (ended g.first) ≤ record_budget size.variables)
     (few : (steps : List CertRecord) → AreKept (matter_in g) (header_in g) steps → AreAsked asks [] steps → length (asked steps) ≤ size.questions) where
   are-counted : (steps : List CertRecord) → AreKept (matter_in g) (header_in g) steps → AreAsked asks [] steps → AreCounted size g.first steps

@@ -7,7 +7,7 @@ use Rattle.std.proofs.lemmas.List.Quantifiers.{all_pairs_push}
 use Rattle.dist_cert.specs.Form.{Word}
 use Rattle.dist_cert.specs.declared.records.CertRecord.{CertRecord}
 use Rattle.dist_cert.specs.declared.records.CertRecord.TheVariants.{Question}
-use Rattle.dist_inquiry.specs.Inquiry.{AreAsked}
+use Rattle.dist_line_write.specs.Script.{AreAsked}
 use Rattle.dist_repair.specs.Answered.{Asked, AsksAlone, AsksAt}
 use Rattle.dist_repair_search.specs.QuestionOrder.{IsRepairQuestion, WasNotAsked}
 use Rattle.dist_space.specs.Space.{SpaceView}

@@ -5,7 +5,7 @@ use Rattle.dist_cert.specs.FirstLines.{first_line}
 use Rattle.dist_cert.specs.Writing.{ended}
 use Rattle.dist_outside.specs.declared.limits.Limits.{Limits}
 use Rattle.dist_outside.specs.declared.trouble.What.{What}
-use Rattle.dist_inquiry.specs.Inquiry.{Setting}
+use Rattle.dist_line_write.specs.Script.{Script}
 use Rattle.dist_inquiry.specs.AnswerText.{setting_of}
 use Rattle.dist_inquiry.specs.Inquiring.{course_of}
 use Rattle.dist_inquiry.specs.Written.{IsFull}
@@ -32,7 +32,7 @@ pub repair-below : (s : SpaceView) (h : RepairHeader) (limits : Limits) (what : 
     → OfRepair s h limits (λ g course. IsFull g course what text) → IsBelowFileBudget limits (repair_size s h) what
 repair-below s h limits what text (basis, are, full) =
     let numbers = first_numbers s h basis in
-    let g : Setting = setting_of (repair_files s) limits basis numbers in
+    let g : Script = setting_of (repair_files s) limits basis numbers in
     let wide = first-width (codes "distfuture-repair 1") numbers in
     let front : length (codes "distfuture-repair 1") ≡ 19 = refl in
     let six : length numbers ≡ 6 = refl in
@@ -52,7 +52,7 @@ pub explanation-below : AreOne → (r : PackageList) (relations : List (List Lit
     → IsBelowFileBudget limits (explanation_size r relations limit) what
 explanation-below one r relations number limit limits what text within present (basis, are, full) =
     let numbers = explain_numbers r number limit basis in
-    let g : Setting = explain_setting r number limit limits basis in
+    let g : Script = explain_setting r number limit limits basis in
     let long : length are.clauses ≡ length relations = ap length (one r false relations are.clauses present are.are_clauses) in
     let all = are.variables in
     let variables : basis.variables ≡ length r.packages + length relations = omega (arith, all, long) in

@@ -29,7 +29,7 @@ use Rattle.dist_space.specs.declared.meaning.Meaning.TheVariants.{At}
 use Rattle.dist_subject.specs.Basis.{Basis, matter_of}
 use Rattle.dist_subject.specs.Later.{later_matter}
 use Rattle.dist_sweep.specs.ClaimLinesLaws.{IsClaimLine, next-claim}
-use Rattle.dist_sweep.specs.LineLaws.{no-future, none-in, plains-small}
+use Rattle.dist_line_write.specs.LineLaws.{no-future, none-in, plains-small}
 use Rattle.dist_sweep.specs.Script.{Setting, matter_in}
 use Rattle.dist_sweep.specs.Window.{IsWindowAt, WindowView}
 use Rattle.dist_challenge.specs.GroupPrivate.{AreFew, CoversRest, IsGroupAt, IsNameable, Struck, challenged_line, names_of, together}

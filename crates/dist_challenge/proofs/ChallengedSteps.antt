@@ -23,17 +23,19 @@ use Rattle.dist_cert.specs.Part.{IsQuestionOn}
 use Rattle.dist_cert.specs.PartByRecordsLaws.{IsLine}
 use Rattle.dist_space.specs.Space.{IsSpace, SpaceView, variable_of}
 use Rattle.dist_space.specs.declared.meaning.Meaning.TheVariants.{Present}
-use Rattle.dist_sweep.specs.Asking.{AskerView, Holds, IsAsked, IsOver, question_lines}
+use Rattle.dist_line_write.specs.Asking.{AskerView, IsOver, question_lines}
+use Rattle.dist_line_write.specs.ScriptLaws.{TwiceLaw}
+use Rattle.dist_line_write.specs.TrueOnesLaws.{true-ones}
+use Rattle.dist_line_write.specs.Words.{true_variables}
+use Rattle.dist_sweep.specs.Asking.{Holds, IsAsked}
+use Rattle.dist_sweep.specs.Script.{Setting, matter_in}
+use Rattle.dist_sweep.specs.ScriptLaws.{stops-after}
 use Rattle.dist_sweep.specs.Claiming.{ClaimMore, ClaimStops, MayClaim, Suits}
 use Rattle.dist_sweep.specs.ClaimLinesLaws.{IsClaimLine, claim-after, uninstallable-line, unknown-line, same-installed}
 use Rattle.dist_sweep.specs.QuestionLinesLaws.{AreAsked, closed-after, closed-here, count-after, group-after, in-group-after, installed-after, questions-of}
-use Rattle.dist_sweep.specs.Script.{Setting, matter_in}
-use Rattle.dist_sweep.specs.ScriptLaws.{TwiceLaw, stops-after}
-use Rattle.dist_sweep.specs.TrueOnesLaws.{true-ones}
 use Rattle.dist_sweep.specs.Window.{WindowView}
 use Rattle.dist_sweep.specs.WindowLaws.{window-same}
-use Rattle.dist_sweep.specs.Words.{true_variables}
-use Rattle.dist_sweep.specs.declared.asker.Reply.TheVariants as replies
+use Rattle.dist_sweep.specs.declared.asking.Reply.TheVariants as replies
 use Rattle.dist_covering.specs.Covering.{CoveringView, IsAdded}
 use Rattle.dist_covering.specs.Used.{AreUses}
 use Rattle.dist_challenge.specs.ChallengedPrivate.{KeepsChallenged}

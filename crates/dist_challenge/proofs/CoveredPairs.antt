@@ -22,11 +22,11 @@ use Rattle.dist_subject.specs.Basis.{Basis, matter_of}
 use Rattle.dist_subject.specs.Later.{later_matter}
 use Rattle.dist_subject.specs.Present.{truth_of}
 use Rattle.dist_subject.specs.TruthLaws.{truth-at, truth-length}
+use Rattle.dist_line_write.specs.TrueOnesLaws.{true-ones}
+use Rattle.dist_line_write.specs.Words.{true_variables}
 use Rattle.dist_sweep.specs.Script.{Setting, matter_in}
-use Rattle.dist_sweep.specs.TrueOnesLaws.{true-ones}
 use Rattle.dist_sweep.specs.Window.{IsWindowAt, WindowView, kept_at}
 use Rattle.dist_sweep.specs.WindowLaws.{IsIn, installation-is, keep-push, sized}
-use Rattle.dist_sweep.specs.Words.{true_variables}
 use Rattle.dist_covering.specs.Covering.{CoveringView}
 use Rattle.dist_covering.specs.Used.{AreUsed, AreUses}
 use Rattle.dist_covering.specs.OpenPairs.{IsKept, IsPairVariable, covered_by, is_covered, used_by}

@@ -15,7 +15,7 @@ use Rattle.dist_cert.specs.Groups.{group, installation_at, installations, is_cla
 use Rattle.dist_cert.specs.GroupLaws.{group-append, installations-append}
 use Rattle.dist_cert.specs.ListLaws.{any-from, from-any}
 use Rattle.dist_cert.specs.Rising.{is_among}
-use Rattle.dist_sweep.specs.Asking.{AskerView}
+use Rattle.dist_line_write.specs.Asking.{AskerView}
 use Rattle.dist_sweep.specs.Script.{Setting, matter_in}
 use Rattle.dist_sweep.specs.Window.{WindowView}
 use Rattle.dist_sweep.specs.WindowLaws.{kept-has}

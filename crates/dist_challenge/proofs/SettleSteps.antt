@@ -20,16 +20,18 @@ use Rattle.dist_cert.specs.FileLines.{lines_text}
 use Rattle.dist_space.specs.Space.{IsSpace, SpaceView, variable_of}
 use Rattle.dist_space.specs.VariableLaws.{place-at}
 use Rattle.dist_space.specs.declared.meaning.Meaning.TheVariants.{At, Present}
-use Rattle.dist_sweep.specs.Asking.{AskerView, Holds, IsOver, question_lines}
-use Rattle.dist_sweep.specs.QuestionLinesLaws.{AreAsked, any-join, installed-after}
+use Rattle.dist_line_write.specs.Asking.{AskerView, IsOver, question_lines}
+use Rattle.dist_line_write.specs.ScriptLaws.{TwiceLaw, lines-more}
+use Rattle.dist_line_write.specs.TrueOnesLaws.{true-ones}
+use Rattle.dist_line_write.specs.Words.{true_variables}
+use Rattle.dist_sweep.specs.Asking.{Holds}
 use Rattle.dist_sweep.specs.Script.{Setting, matter_in}
-use Rattle.dist_sweep.specs.ScriptLaws.{TwiceLaw, lines-more, stops-after}
-use Rattle.dist_sweep.specs.TrueOnesLaws.{true-ones}
+use Rattle.dist_sweep.specs.ScriptLaws.{stops-after}
+use Rattle.dist_sweep.specs.QuestionLinesLaws.{AreAsked, any-join, installed-after}
 use Rattle.dist_sweep.specs.Window.{IsWindowAt, WindowView}
 use Rattle.dist_sweep.specs.WindowLaws.{window-more, window-same}
-use Rattle.dist_sweep.specs.Words.{true_variables}
-use Rattle.dist_sweep.specs.declared.asker.Reply.{Reply}
-use Rattle.dist_sweep.specs.declared.asker.Reply.TheVariants as replies
+use Rattle.dist_sweep.specs.declared.asking.Reply.{Reply}
+use Rattle.dist_sweep.specs.declared.asking.Reply.TheVariants as replies
 use Rattle.dist_covering.specs.Covering.{CoveringView, IsAdded}
 use Rattle.dist_covering.specs.Used.{AreUsed, AreUses}
 use Rattle.dist_challenge.specs.GroupPrivate.{CoversRest, EachAnswered, FitsBegun, FitsGroup, IsGroupAt, IsSettling, NoToday}

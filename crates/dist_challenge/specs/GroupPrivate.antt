@@ -15,9 +15,10 @@ use Rattle.dist_cert.specs.Groups as lines
 use Rattle.dist_cert.specs.FileLines.{lines_text}
 use Rattle.dist_space.specs.Space.{SpaceView, variable_of}
 use Rattle.dist_space.specs.declared.meaning.Meaning.TheVariants.{Present}
-use Rattle.dist_sweep.specs.Asking.{AskerView, IsAt}
-use Rattle.dist_sweep.specs.Claiming.{IsClaimed}
+use Rattle.dist_line_write.specs.Asking.{AskerView}
+use Rattle.dist_sweep.specs.Asking.{IsAt}
 use Rattle.dist_sweep.specs.Script.{Setting, Stops, matter_in}
+use Rattle.dist_sweep.specs.Claiming.{IsClaimed}
 use Rattle.dist_sweep.specs.Window.{IsWindowAt, WindowView}
 use Rattle.dist_covering.specs.Covering.{CoveringView}
 use Rattle.dist_challenge.specs.ChallengedPrivate.{KeepsChallenged}

@@ -2,12 +2,14 @@
 ghost use Rattle.std.specs.Prelude.{◌≡◌, ◌≤◌, [], ◌∷◌, IfErr, IfOk};
 ghost use Rattle.dist_outside.specs.Files.{IsWriting};
 ghost use Rattle.dist_cert.specs.ClaimRules.{yes};
-ghost use Rattle.dist_sweep.specs.Asking.{AskMore, AskStops, Holds, IsOver};
-ghost use Rattle.dist_sweep.specs.Script.{Grows};
+ghost use Rattle.dist_line_write.specs.Asking.{IsOver};
+ghost use Rattle.dist_line_write.specs.Script.{Grows};
+ghost use Rattle.dist_sweep.specs.Asking.{AskMore, AskStops, Holds};
 ghost use Rattle.dist_challenge.specs.GroupPrivate.{together};
 
+use dist_line_write::Asker;
 use dist_outside::{Desk, WorkError, file_grows};
-use dist_sweep::{Asker, Reply};
+use dist_sweep::{Reply, ask};
 use std::alloc::{AllocError, Global};
 
 /// The question of two variables.
@@ -41,5 +43,5 @@ pub(crate) fn ask_both<D: Desk>(
 {
     file_grows();
     let question = both(alloc, variable, other)?;
-    asker.ask_guessing(desk, &question, guess)
+    ask(asker, desk, &question, guess, None)
 }

@@ -5,7 +5,7 @@ ghost use Rattle.dist_cert.specs.Form.{AreFromOne, ArePairs, KeepsRules};
 ghost use Rattle.dist_outside.specs.Files.{IsWriting};
 ghost use Rattle.dist_cert.specs.Rising.{AreRising};
 ghost use Rattle.dist_sweep.specs.Claiming.{ClaimMore, ClaimStops, Suits};
-ghost use Rattle.dist_sweep.specs.Script.{Grows};
+ghost use Rattle.dist_line_write.specs.Script.{Grows};
 ghost use Rattle.dist_space.specs.Space.{variable_of};
 ghost use Rattle.dist_space.specs.declared.meaning.Meaning.TheVariants.{Present};
 ghost use Rattle.dist_challenge.specs.ChallengedPrivate.{KeepsChallenged};
@@ -21,10 +21,11 @@ ghost use Rattle.dist_challenge.specs.GroupPrivate.{AreSmallPairs};
 use crate::ahead::Ahead;
 use dist_cert::{CertRecord, Claim, Items, Numbers};
 use dist_covering::{Covering, Group, pair_at};
+use dist_line_write::Asker;
 use dist_outside::{Desk, WorkError, file_grows};
 use dist_space::{Meaning, Space};
 use dist_subject::pairs_are_of_the_space;
-use dist_sweep::{Asker, Claimant, Reply, Window};
+use dist_sweep::{Claimant, Reply, Window};
 use std::alloc::{AllocError, Global};
 
 /// Makes the claims on challenged packages. Between them it keeps the clusters that each of the latest installations uses.

@@ -1,16 +1,17 @@
 //! The group of a claim: each pair that is left is asked for once.
 ghost use Rattle.std.specs.Prelude.{◌≡◌, ◌≤◌, ◌∷◌, [], ◌++◌, IfErr, OnOk, false, length, true};
 ghost use Rattle.dist_outside.specs.Files.{IsWriting};
-ghost use Rattle.dist_sweep.specs.Script.{Grows};
+ghost use Rattle.dist_line_write.specs.Script.{Grows};
 ghost use Rattle.dist_challenge.specs.GroupPrivate.{FitsGroup, SettleMore, SettleStops};
 ghost use Rattle.dist_challenge.specs.GroupPrivate.{IsNextCount};
 
 use crate::asking::ask_both;
 use crate::challenged_claimant::ChallengedClaimant;
 use dist_covering::Group;
+use dist_line_write::Asker;
 use dist_outside::{Desk, WorkError, file_grows};
 use dist_subject::pairs_are_of_the_space;
-use dist_sweep::{Asker, Reply, Window};
+use dist_sweep::{Reply, Window};
 
 impl ChallengedClaimant {
     /// Asks for the package of the claim at a pair, the last one of those that were left.

@@ -1,8 +1,9 @@
 //! Asks for an installation of today with the package of a claim.
 ghost use Rattle.std.specs.Prelude.{◌≡◌, ◌≤◌, IfErr, IfOk, IfSome, length};
 ghost use Rattle.dist_outside.specs.Files.{IsWriting};
-ghost use Rattle.dist_sweep.specs.Asking.{AskMore, AskStops, Holds, IsOver};
-ghost use Rattle.dist_sweep.specs.Script.{Grows};
+ghost use Rattle.dist_line_write.specs.Asking.{IsOver};
+ghost use Rattle.dist_line_write.specs.Script.{Grows};
+ghost use Rattle.dist_sweep.specs.Asking.{AskMore, AskStops, Holds};
 ghost use Rattle.dist_covering.specs.OpenPairs.{IsTodayWith};
 ghost use Rattle.dist_challenge.specs.GroupPrivate.{together};
 
@@ -11,8 +12,9 @@ use crate::challenged_claimant::ChallengedClaimant;
 use dist_cert::REACH;
 use dist_clause::Assignment;
 use dist_covering::is_today;
+use dist_line_write::Asker;
 use dist_outside::{Desk, WorkError, file_grows};
-use dist_sweep::{Asker, Reply, Window};
+use dist_sweep::{Reply, Window};
 use std::alloc::AllocError;
 
 /// The latest installation of today.

@@ -27,14 +27,15 @@ use Rattle.dist_cert.specs.Rising.{is_among}
 use Rattle.dist_check_group.specs.Group.{empty_group}
 use Rattle.dist_check_group.specs.Layout.{LayoutView}
 use Rattle.dist_check_state.specs.State.{StateView}
-use Rattle.dist_check_state.specs.declared.future.FutureClauses.{FutureClauses}
+use Rattle.dist_line_check.specs.Checker.{CheckerView}
+use Rattle.dist_line_check.specs.declared.future.FutureClauses.{FutureClauses}
 use Rattle.dist_subject.specs.Basis.{IsBasisOf, IsLaterOf, Later}
 use Rattle.dist_subject.specs.Later.{later_matter}
 use Rattle.dist_subject.specs.Inputs.{AreInputsOf}
 use Rattle.dist_subject.specs.Limited.{PassesFirst}
 use Rattle.dist_subject.specs.MemberLaws.{model-alike, value-among}
 use Rattle.dist_subject.specs.Present.{present_matter, truth_of}
-use Rattle.dist_check_state.specs.LinesAt.{AreFuturesBy}
+use Rattle.dist_line_check.specs.LinesAt.{AreFuturesBy}
 use Rattle.dist_check.specs.LaysOut.{IsCluster, LaysOut}
 use Rattle.dist_check.specs.Start.{IsStart, StartAnswers}
 use Rattle.dist_check.specs.StartPrivate.{HasNumbers, IsLargeFault, IsSubject}
@@ -150,7 +151,7 @@ large-answers r limits h (Work NoMemory) large = tt
 large-answers r limits h (Work error) large = absurd large
 large-answers r limits h (Bad fault) large = absurd large
 
--- ---- the state
+-- ---- what is kept
 
 abbrev pub log_of : ClauseList → Limits → ClauseLog
 log_of inputs limits = record {
@@ -161,25 +162,25 @@ log_of inputs limits = record {
   line_literal_limit = limits.line_literals;
 }
 
-abbrev pub begun : ℕ → ℕ → LayoutView → FutureClauses → ClauseLog → StateView
-begun limit packages layout future log = record {
-  limit = limit;
+abbrev pub checker : ℕ → FutureClauses → ClauseLog → CheckerView
+checker limit future log = record { limit = limit; future = future; log = log; question = None }
+
+abbrev pub noted : ℕ → LayoutView → StateView
+noted packages layout = record {
   packages = packages;
   layout = layout;
-  log = log;
-  future = future;
   window = record { kept = []; count = 0 };
-  question = None;
   next = 1;
   group = empty_group;
   claims = [];
 }
 
 pub begins : (r : PackageList) (limits : Limits) (h : Header) (packages : ℕ) (inputs : ClauseList) (layout : LayoutView) (future : FutureClauses)
-    (s : StateView) → IsSubject r limits h.kind h.essential packages inputs layout future → HasNumbers packages inputs h
-    → s ≡ begun h.limit packages layout future (log_of inputs limits) → IsWithinLineLimits s.log → IsStart r limits h s
-begins r limits h packages inputs layout future s subject numbers same within =
-    subst (λ (t : StateView). IsStart r limits h t) (sym same) (record {
+    (c : CheckerView) (s : StateView) → IsSubject r limits h.kind h.essential packages inputs layout future → HasNumbers packages inputs h
+    → c ≡ checker h.limit future (log_of inputs limits) → IsWithinLineLimits c.log → s ≡ noted packages layout → IsStart r limits h c s
+begins r limits h packages inputs layout future c s subject numbers kept within same =
+    subst (λ (t : StateView). IsStart r limits h c t) (sym same)
+    (subst (λ (d : CheckerView). IsWithinLineLimits d.log → IsStart r limits h d (noted packages layout)) (sym kept) (λ inside. record {
       basis = subject.basis;
       is_basis = subject.are_inputs.is_basis;
       fits = record {
@@ -198,13 +199,13 @@ begins r limits h packages inputs layout future s subject numbers same within =
       future = subject.future_is;
       line_limit = refl;
       line_literal_limit = refl;
-      within = subst IsWithinLineLimits (ap (λ (t : StateView). t.log) same) within;
+      within = inside;
       window = refl;
       question = refl;
       next = refl;
       group_is = refl;
       claims = refl;
-    })
+    }) within)
 
 -- the numbers are those of what is judged by
 pub fits-numbers : (r : PackageList) (limits : Limits) (h : Header) (packages : ℕ) (inputs : ClauseList) (layout : LayoutView) (future : FutureClauses)

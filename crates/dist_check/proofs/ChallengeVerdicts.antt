@@ -26,7 +26,7 @@ use Rattle.dist_check_group.specs.Challenge.{is_used, use_each}
 use Rattle.dist_check.specs.LaysOut.{IsCluster, IsPair, LaysOut}
 use Rattle.dist_check.specs.CoverPrivate.{IsCoverOf, IsUsedOf}
 use Rattle.dist_check.proofs.TestLemmas.{Tests, all-tested, any-tested}
-use Rattle.dist_check_state.specs.ToldLaws.{IsTold, any-told, bool-told, number-told}
+use Rattle.dist_line_check.specs.ToldLaws.{IsTold, any-told, bool-told, number-told}
 
 -- What is known where a claim on challenges is looked at: what the variables stand for, which installations are kept, and
 -- what is kept of the group.

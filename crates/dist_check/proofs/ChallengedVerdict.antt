@@ -21,7 +21,7 @@ use Rattle.dist_check.specs.CoverPrivate.{IsCoverOf}
 use Rattle.dist_check.proofs.ChallengeVerdicts.{IsChallenge, IsFirstByRules, challenge-told}
 use Rattle.dist_check.proofs.ClosingVerdicts.{incomplete-verdict, listed-verdict, next-is, next-within, on-challenged, present-next}
 use Rattle.dist_check.proofs.ClosingVerdicts.{right-verdict, wrong-verdict}
-use Rattle.dist_check_state.specs.VerdictLaws.{IsVerdict}
+use Rattle.dist_line_check.specs.VerdictLaws.{IsVerdict}
 use Rattle.dist_check.proofs.WindowLemmas.{kept-recent, member-tests}
 
 -- a claim of another kind does not hold

@@ -1,4 +1,4 @@
--- How the check of a text begins, and what a line leaves.
+-- How the check of a text begins.
 use Rattle.std.proofs.Common.{◌≡◌, ◌≢◌, inl, ℕ, Bool, false, List, [], ◌∷◌, ◌++◌, Option, Some, None, Ok, Err, refl, sym, ap}
 use Rattle.std.proofs.Common.{subst, ◌∙◌, arith}
 use Rattle.std.specs.List.{All}
@@ -17,8 +17,6 @@ use Rattle.dist_cert.specs.declared.faults.ReadCertError.{ReadCertError}
 use Rattle.dist_cert.specs.declared.faults.ReadCertError.TheVariants.{Bad, Work}
 use Rattle.dist_cert.specs.declared.records.CertKind.{CertKind}
 use Rattle.dist_cert.specs.declared.records.CertKind.TheVariants as kinds
-use Rattle.dist_cert.specs.declared.records.CertRecord.{CertRecord}
-use Rattle.dist_cert.specs.declared.records.CertRecord.TheVariants as lines
 use Rattle.dist_cert.specs.declared.records.Header.{Header}
 use Rattle.dist_cert.specs.ClearFormsLaws.{FormsAreClear}
 use Rattle.dist_cert.specs.Form.{header_text}
@@ -34,45 +32,13 @@ use Rattle.dist_subject.specs.Basis.{Today, matter_of}
 use Rattle.dist_subject.specs.Certificates.{certificates_of}
 use Rattle.dist_subject.specs.Limited.{PassesFirst, PassesLater, PassesPresent}
 use Rattle.dist_check.specs.Start.{IsStart, StartAnswers}
-use Rattle.dist_check_state.specs.State.{StateView, Tells, Becomes, LineStops}
-use Rattle.dist_check.specs.CheckedPrivate.{IsChecked}
-use Rattle.dist_check.proofs.CheckState.{no-other}
+use Rattle.dist_check_state.specs.State.{StateView}
+use Rattle.dist_line_check.specs.Checked.{IsChecked}
+use Rattle.dist_line_check.specs.Checker.{CheckerView}
+use Rattle.dist_check.specs.CertificateLines.{certificate_lines}
 use Rattle.dist_check.proofs.ClearKind.{clear-kind}
-use Rattle.dist_check.proofs.Next.{starts-at}
+use Rattle.dist_check.proofs.Next.{starts-at, starts-kept}
 use Rattle.dist_check.proofs.Whole.{ModelsAreHealthy}
-
--- a line that is taken leaves the limits of derived lines
-pub limits-stay : (s t : StateView) (step : CertRecord) → Tells s step None → Becomes s step t → (t.log.line_limit ≡ s.log.line_limit)
-    × (t.log.line_literal_limit ≡ s.log.line_literal_limit)
-limits-stay s t (lines.Question literals) told is = (ap (λ (v : StateView). v.log.line_limit) is, ap (λ (v : StateView). v.log.line_literal_limit) is)
-limits-stay s t (lines.Derived literals hints) told is = (ap (λ (v : StateView). v.log.line_limit) is, ap (λ (v : StateView). v.log.line_literal_limit) is)
-limits-stay s t (lines.Refuted hints) told is = (ap (λ (v : StateView). v.log.line_limit) is.rest, ap (λ (v : StateView). v.log.line_literal_limit) is.rest)
-limits-stay s t lines.Undecided told is = (ap (λ (v : StateView). v.log.line_limit) is.rest, ap (λ (v : StateView). v.log.line_literal_limit) is.rest)
-limits-stay s t (lines.Installation variables) told is =
-    (ap (λ (v : StateView). v.log.line_limit) is.rest, ap (λ (v : StateView). v.log.line_literal_limit) is.rest)
-limits-stay s t (lines.NotInstallable p) told is = (ap (λ (v : StateView). v.log.line_limit) is, ap (λ (v : StateView). v.log.line_literal_limit) is)
-limits-stay s t (lines.Unknown p) told is = (ap (λ (v : StateView). v.log.line_limit) is, ap (λ (v : StateView). v.log.line_literal_limit) is)
-limits-stay s t (lines.Strong p named on undecided) told is = (ap (λ (v : StateView). v.log.line_limit) is, ap (λ (v : StateView). v.log.line_literal_limit) is)
-limits-stay s t (lines.Outdated p) told is = (ap (λ (v : StateView). v.log.line_limit) is, ap (λ (v : StateView). v.log.line_literal_limit) is)
-limits-stay s t (lines.Alive p i) told is = (ap (λ (v : StateView). v.log.line_limit) is, ap (λ (v : StateView). v.log.line_literal_limit) is)
-limits-stay s t (lines.Challenged p named by undecided) told is =
-    (ap (λ (v : StateView). v.log.line_limit) is, ap (λ (v : StateView). v.log.line_literal_limit) is)
-limits-stay s t lines.End told is = (ap (λ (v : StateView). v.log.line_limit) is, ap (λ (v : StateView). v.log.line_literal_limit) is)
-
--- the variables stay
-pub variables-stay : (s t : StateView) (step : CertRecord) → Tells s step None → Becomes s step t → t.log.variables ≡ s.log.variables
-variables-stay s t (lines.Question literals) told is = ap (λ (v : StateView). v.log.variables) is
-variables-stay s t (lines.Derived literals hints) told is = ap (λ (v : StateView). v.log.variables) is
-variables-stay s t (lines.Refuted hints) told is = ap (λ (v : StateView). v.log.variables) is.rest
-variables-stay s t lines.Undecided told is = ap (λ (v : StateView). v.log.variables) is.rest
-variables-stay s t (lines.Installation variables) told is = ap (λ (v : StateView). v.log.variables) is.rest
-variables-stay s t (lines.NotInstallable p) told is = ap (λ (v : StateView). v.log.variables) is
-variables-stay s t (lines.Unknown p) told is = ap (λ (v : StateView). v.log.variables) is
-variables-stay s t (lines.Strong p named on undecided) told is = ap (λ (v : StateView). v.log.variables) is
-variables-stay s t (lines.Outdated p) told is = ap (λ (v : StateView). v.log.variables) is
-variables-stay s t (lines.Alive p i) told is = ap (λ (v : StateView). v.log.variables) is
-variables-stay s t (lines.Challenged p named by undecided) told is = ap (λ (v : StateView). v.log.variables) is
-variables-stay s t lines.End told is = ap (λ (v : StateView). v.log.variables) is
 
 -- ---- the first line
 
@@ -174,10 +140,10 @@ start-stops clear r limits reader told left after h is same error answers stops 
         at text answer.0 answer.2 error stops
 
 pub starts-checked : FormsAreClear → ModelsAreHealthy → (r : PackageList) → IsInOrder r.packages
-    → (limits : Limits) (reader next : ReaderView) (told left after : Option (List ℕ)) (h : Header) (s : StateView)
+    → (limits : Limits) (reader next : ReaderView) (told left after : Option (List ℕ)) (h : Header) (c : CheckerView) (s : StateView)
     → reader ≡ new_reader limits → left ≡ told → WhereTold left after (λ rest more. HeaderAnswers reader rest more (Ok h)) → HeaderOfSome reader (Ok h)
-    → GivesHeader reader next (Ok h) → IsStart r limits h s → IsChecked r limits told h next after s
-starts-checked clear models r ordered limits reader next told left after h s is same answers some gives start = record {
+    → GivesHeader reader next (Ok h) → IsStart r limits h c s → IsChecked (certificate_lines r) limits told h next after c s
+starts-checked clear models r ordered limits reader next told left after h c s is same answers some gives start = record {
   basis = start.basis;
   before = [];
   read = starts_read (certificates_of r) limits told start.basis h next after start.is_basis start.kept
@@ -185,15 +151,17 @@ starts-checked clear models r ordered limits reader next told left after h s is 
       (omega (arith, ap (λ (v : ReaderView). v.lines) gives, ap (λ (v : ReaderView). v.lines) is))
       (omega (arith, ap (λ (v : ReaderView). v.given) gives, ap (λ (v : ReaderView). v.given) is))
       (ap (λ (v : ReaderView). v.ended) gives ∙ ap (λ (v : ReaderView). v.ended) is) (by told same);
-  inputs_mean = record {
-    over = subst (λ cs. All (IsClauseOver (matter_of r start.basis).variables) cs) start.clauses
-        (subst (λ n. All (IsClauseOver n) s.log.clauses) start.variables start.within.over_variables);
-    models = models r h.kind h.essential start.basis ordered start.is_basis;
+  reached = record {
+    kept = starts-kept r limits h c s start (record {
+      over = subst (λ cs. All (IsClauseOver (matter_of r start.basis).variables) cs) start.clauses
+          (subst (λ n. All (IsClauseOver n) c.log.clauses) start.variables start.within.over_variables);
+      models = models r h.kind h.essential start.basis ordered start.is_basis;
+    });
+    line_limit = start.line_limit;
+    line_literal_limit = start.line_literal_limit;
+    within = start.within;
+    noted = starts-at r limits h c s start;
   };
-  at = starts-at r limits h s start;
-  line_limit = start.line_limit;
-  line_literal_limit = start.line_literal_limit;
-  within = start.within;
 }
   where
     at : (text more : List ℕ) → IsHeaderNext reader text more h → AreRight (rules_of (certificates_of r) start.basis) limits text h [] more
@@ -242,14 +210,3 @@ start-cause r limits h old new (Work (TooLarge Bytes)) stops = no-first r h.kind
 start-cause r limits h old new (Work (TooLarge Stanzas)) stops = no-first r h.kind h.essential limits Stanzas (λ e. cc) (λ e. cc) (λ e. cc) stops
 start-cause r limits h old new (Work (TooLarge RecordLine)) stops = no-first r h.kind h.essential limits RecordLine (λ e. cc) (λ e. cc) (λ e. cc) stops
 start-cause r limits h old new (Work error) stops = absurd stops
-
-pub line-cause : (s : StateView) (step : CertRecord) (line : ℕ) (old new : DeskView) (error : ReadCertError) → LineStops s step line error
-    → TextCause old new error
-line-cause s step line old new (Bad fault) stops = tt
-line-cause s step line old new (Work NoMemory) stops = tt
-line-cause s step line old new (Work (TooLarge Lines)) stops = tt
-line-cause s step line old new (Work (TooLarge LineLiterals)) stops = tt
-line-cause s step line old new (Work ReadFault) stops = absurd (no-other s step ReadFault stops.1 (λ e. cc) (λ e. cc) (λ e. cc))
-line-cause s step line old new (Work WriteFault) stops = no-other s step WriteFault stops.1 (λ e. cc) (λ e. cc) (λ e. cc)
-line-cause s step line old new (Work (TooLarge Variables)) stops = tt
-line-cause s step line old new (Work (TooLarge what)) stops = absurd (no-other s step (TooLarge what) stops.1 (λ e. cc) (λ e. cc) (λ e. cc))

@@ -1,17 +1,13 @@
 -- What a text's check takes from the check of its lines.
 use Rattle.std.proofs.Common.{◌≡◌, ℕ, List, Option, Some, None, Ok, sym, subst}
-use Rattle.dist_outside.specs.DeskView.{DeskView, OnlyReads}
 use Rattle.dist_outside.specs.declared.limits.Limits.{Limits}
-use Rattle.dist_outside.specs.declared.trouble.WorkError.TheVariants.{ReadFault, WriteFault, TooLarge, NoMemory}
+use Rattle.dist_outside.specs.declared.trouble.WorkError.TheVariants.{NoMemory}
 use Rattle.dist_repo.specs.Order.{IsInOrder}
 use Rattle.dist_repo.specs.PackageList.{PackageList}
-use Rattle.dist_cert.specs.declared.faults.ReadCertError.{ReadCertError}
-use Rattle.dist_cert.specs.declared.faults.ReadCertError.TheVariants.{Bad, Work}
+use Rattle.dist_cert.specs.declared.faults.ReadCertError.TheVariants.{Work}
 use Rattle.dist_cert.specs.declared.records.Claim.{Claim}
 use Rattle.dist_cert.specs.declared.records.Header.{Header}
-use Rattle.dist_judge.specs.Causes.{TextCause}
 use Rattle.dist_judge.specs.Judging.{OfText, StopsWith}
-use Rattle.dist_judge.specs.ReadingLaws.{rose_from}
 use Rattle.dist_subject.specs.Basis.{IsAccepted}
 use Rattle.dist_subject.specs.Certificates.{certificates_of}
 use Rattle.dist_subject.specs.Completed.{IsCompleted}
@@ -20,6 +16,7 @@ use Rattle.dist_check.specs.Checking.{TextAnswers}
 use Rattle.dist_check.specs.Means.{Means}
 use Rattle.dist_check.specs.Start.{IsStart}
 use Rattle.dist_check_state.specs.State.{StateView}
+use Rattle.dist_line_check.specs.Checker.{CheckerView}
 
 -- want of memory may come at any text
 pub no-memory : (r : PackageList) (limits : Limits) (told : Option (List ℕ))
@@ -38,8 +35,9 @@ completed-alike header claims r limits (Some text) h made of h_is made_is done =
 -- what an accepted text proves, by the law of accepted texts
 pub accepted-means : ((r : PackageList) (limits : Limits) (text : List ℕ) (h : Header) (made : List Claim) → IsInOrder r.packages
     → IsAccepted r limits text h made → Means h.kind h.essential r made) → (r : PackageList) (limits : Limits) (text : List ℕ) (h : Header)
-    (made : List Claim) (s : StateView) → IsInOrder r.packages → IsStart r limits h s → IsCompleted r limits text h made → AcceptedMeans r h made
-accepted-means hold r limits text h made s ordered start done = record {
+    (made : List Claim) (c : CheckerView) (s : StateView) → IsInOrder r.packages → IsStart r limits h c s → IsCompleted r limits text h made
+    → AcceptedMeans r h made
+accepted-means hold r limits text h made c s ordered start done = record {
   form = done.accepted.faultless.reads.header;
   basis = start.basis;
   is_basis = start.is_basis;

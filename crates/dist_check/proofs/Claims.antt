@@ -28,11 +28,11 @@ use Rattle.dist_cert.specs.Accepted.{from_zero, claim_in}
 use Rattle.dist_subject.specs.Present.{present_matter, packages_of}
 use Rattle.dist_subject.specs.Claims.{NamesOthers}
 use Rattle.dist_check.specs.Means.{SaysStrong}
-use Rattle.dist_check_state.specs.ToldLaws.{IsTold, stable, most-told, less-told, bool-told, number-told}
+use Rattle.dist_line_check.specs.ToldLaws.{IsTold, stable, most-told, less-told, bool-told, number-told}
 use Rattle.dist_check.proofs.Places.{contains-map, image-of}
 use Rattle.dist_judge.specs.LineLaws.{HaveForms}
-use Rattle.dist_check_state.specs.LinesAt.{AreRight}
-use Rattle.dist_check_state.specs.ModelLaws.{IsSoundRule, refuted-true}
+use Rattle.dist_line_check.specs.LinesAt.{AreRight}
+use Rattle.dist_line_check.specs.ModelLaws.{IsSoundRule, refuted-true}
 use Rattle.dist_check.proofs.GroupLemmas.{group-behind, installation-healthy, recent-there}
 use Rattle.dist_subject.specs.MemberLaws.{member-from, member-at, package-there, variable-there}
 use Rattle.dist_check.proofs.Counts.{next-number}

@@ -24,8 +24,8 @@ use Rattle.dist_check_state.specs.State.{StateView, is_next, is_outdated, holds_
 use Rattle.dist_check_state.specs.State.{TellsClaim, TellsEnd, TellsListed}
 use Rattle.dist_check.specs.AtPrivate.{IsAt, own_question}
 use Rattle.dist_check.proofs.WindowLemmas.{member-tests}
-use Rattle.dist_check_state.specs.FirstFaultLaws.{rank, may_have, faultless_from, first_from}
-use Rattle.dist_check_state.specs.VerdictLaws.{IsVerdict}
+use Rattle.dist_line_check.specs.FirstFaultLaws.{rank, may_have, faultless_from, first_from}
+use Rattle.dist_line_check.specs.VerdictLaws.{IsVerdict}
 
 -- ---- the end
 

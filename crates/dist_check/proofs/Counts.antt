@@ -15,8 +15,8 @@ use Rattle.dist_cert.specs.declared.records.Header.{Header}
 use Rattle.dist_cert.specs.Groups.{claimed, claim_count}
 use Rattle.dist_cert.specs.Accepted.{from_zero, pairs_from_zero, claim_in, claims_in}
 use Rattle.dist_cert.specs.Subject.{Matter}
-use Rattle.dist_check_state.specs.LinesAt.{AreRight}
-use Rattle.dist_check_state.specs.ToldLaws.{stable, less-told, most-told}
+use Rattle.dist_line_check.specs.LinesAt.{AreRight}
+use Rattle.dist_line_check.specs.ToldLaws.{stable, less-told, most-told}
 use Rattle.dist_check.proofs.Places.{cut-at}
 
 -- a line is no claim, or one claim on one package

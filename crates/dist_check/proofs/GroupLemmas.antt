@@ -9,7 +9,7 @@ use Rattle.dist_cert.specs.declared.records.Header.{Header}
 use Rattle.dist_cert.specs.Subject.{Matter}
 use Rattle.dist_cert.specs.Groups.{is_claim, group, installations, installation_at, IsRecent}
 use Rattle.dist_cert.specs.ListLaws.{contains-cases}
-use Rattle.dist_check_state.specs.LinesAt.{AreRight}
+use Rattle.dist_line_check.specs.LinesAt.{AreRight}
 
 -- the lines before a group
 pub record IsBehind (lines behind : List CertRecord) : Type 0 where

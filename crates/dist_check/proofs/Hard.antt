@@ -10,9 +10,9 @@ use Rattle.dist_cert.specs.declared.records.Header.{Header}
 use Rattle.dist_cert.specs.Form.{Word}
 use Rattle.dist_cert.specs.Subject.{Matter}
 use Rattle.dist_cert.specs.Groups.{clause_of, derived, numbered, IsUndecidedIn}
-use Rattle.dist_check_state.specs.ToldLaws.{stable, most-told}
+use Rattle.dist_line_check.specs.ToldLaws.{stable, most-told}
 use Rattle.dist_check.proofs.TriedMarks.{tried}
-use Rattle.dist_check_state.specs.LinesAt.{AreRight}
+use Rattle.dist_line_check.specs.LinesAt.{AreRight}
 
 -- the law of dist_derive
 abbrev pub NewLinesAreFew : Type 0

@@ -1,7 +1,7 @@
 -- What a claim of kind outdated or challenged without a fault says is true.
 use Rattle.std.proofs.Common.{◌≡◌, ◌≢◌, ◌↔◌, ◌⊎◌, inl, inr, ⊎_elim, ℕ, ◌+◌, ◌-◌, ◌<◌, Bool, true, false, List, [], ◌∷◌, ◌++◌, length, map, not, Some, refl}
 use Rattle.std.proofs.Common.{sym, ap, subst, ◌∙◌, append_assoc, arith, slice_get}
-use Rattle.std.specs.List.{All, Any, Contains}
+use Rattle.std.specs.List.{All, Contains}
 use Rattle.std.proofs.lemmas.Bool.{cases_eq, false≢true}
 use Rattle.std.proofs.lemmas.List.Elements.{All-append, All-nil, All-cons, All-head, All-tail, All-contains}
 use Rattle.std.proofs.lemmas.List.Elements.{Contains-append_left, Contains-append_right, Contains-append_cases}
@@ -50,10 +50,10 @@ use Rattle.dist_subject.specs.Present.{truth_of}
 use Rattle.dist_subject.specs.TruthLaws.{truth-length}
 use Rattle.dist_check.specs.Means.{IsOfListed, IsPairBeside, SaysChallenged, SaysOutdated, TellsPairs}
 use Rattle.dist_judge.specs.LineLaws.{HaveForms}
-use Rattle.dist_check_state.specs.LinesAt.{AreRight}
-use Rattle.dist_check_state.specs.ToldLaws.{IsTold, stable, less-told, any-told, number-told, model-told}
+use Rattle.dist_line_check.specs.LinesAt.{AreRight}
+use Rattle.dist_line_check.specs.ToldLaws.{IsTold, stable, less-told, any-told, number-told, model-told}
 use Rattle.dist_check.proofs.Places.{contains-map}
-use Rattle.dist_check_state.specs.ModelLaws.{IsSoundRule, refuted-true}
+use Rattle.dist_line_check.specs.ModelLaws.{IsSoundRule, refuted-true}
 use Rattle.dist_check.proofs.GroupLemmas.{group-behind, installation-healthy, line-of, recent-there}
 use Rattle.dist_check.proofs.Counts.{next-claim}
 use Rattle.dist_check.proofs.Claims.{named-told}

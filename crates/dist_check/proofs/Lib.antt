@@ -20,7 +20,7 @@ mod StrongVerdicts
 mod CoverSteps
 mod Steps
 mod Next
-mod CheckState
+mod CertificateNotes
 mod CheckSteps
 mod CheckText
 mod OneVerdict

@@ -9,7 +9,7 @@ use Rattle.dist_now.specs.PresentLaws.{AreModelsInstallations}
 use Rattle.dist_subject.specs.MemberLaws.{same-flags}
 use Rattle.dist_subject.specs.TruthLaws.{truth-length}
 use Rattle.dist_subject.specs.Present.{truth_of, packages_of}
-use Rattle.dist_check_state.specs.ToldLaws.{model-told, IsTold}
+use Rattle.dist_line_check.specs.ToldLaws.{model-told, IsTold}
 
 pub healthy-told : (r : PackageList) (essential : Bool) (clauses : List (List Literal)) (flags : List Bool) → IsInOrder r.packages
     → length flags ≡ length r.packages → AreModelsInstallations r essential clauses

@@ -7,12 +7,11 @@ use Rattle.std.proofs.lemmas.List.{append-nil, drop-append-le, drop-drop, length
 use Rattle.std.proofs.lemmas.List.Elements.{All-nil, All-push}
 use Rattle.std.proofs.lemmas.List.Quantifiers.{Any-push}
 use Rattle.std.proofs.lemmas.Grind.{flat_map-append}
-use Rattle.dist_clause.specs.Formula.{Literal}
 use Rattle.dist_cert.specs.declared.TheConstants.{REACH}
 use Rattle.dist_cert.specs.declared.records.CertRecord.{CertRecord}
 use Rattle.dist_cert.specs.declared.records.CertRecord.TheVariants as lines
 use Rattle.dist_cert.specs.Form.{Word}
-use Rattle.dist_cert.specs.Groups.{derived_in, derived, installed_in, installations, is_claim, group, leaves_open, IsOpen, IsRefutedIn, IsUndecidedIn}
+use Rattle.dist_cert.specs.Groups.{installed_in, installations, is_claim, group, IsOpen, IsRefutedIn, IsUndecidedIn}
 use Rattle.dist_cert.specs.ClaimRules.{yes, no}
 use Rattle.dist_cert.specs.Rising.{is_among}
 use Rattle.dist_check_group.specs.Window.{latest}
@@ -22,13 +21,12 @@ use Rattle.dist_check_group.specs.Closed.{ClosedView, asks_alone, asks_own, asks
 use Rattle.dist_check_group.specs.Common.{narrowed, common_with}
 use Rattle.dist_check_group.specs.Group.{GroupView, Grows, empty_group}
 use Rattle.dist_check_group.specs.Layout.{LayoutView}
-use Rattle.dist_check_state.specs.State.{Notes, QuestionView}
-use Rattle.dist_check_state.specs.LinesAt.{IsQuestionOf}
+use Rattle.dist_check_state.specs.State.{Notes}
 use Rattle.dist_check.specs.AtPrivate.{AreClosed, IsCommonOf, IsGathered, IsGroupOf, own_question}
 use Rattle.dist_check.specs.CoverPrivate.{IsCoverOf}
 use Rattle.dist_check.proofs.CoverSteps.{any-append, cover-first, cover-push, filter-has}
 use Rattle.dist_cert.specs.ListLaws.{any-from, from-any}
-use Rattle.dist_cert.specs.GroupLaws.{IsOpening, IsAsked, one-open, still-open, none-still, closed-push, closed-more, closed-here, none-closed, group-push}
+use Rattle.dist_cert.specs.GroupLaws.{IsAsked, one-open, closed-push, closed-more, closed-here, none-closed, group-push}
 use Rattle.dist_cert.specs.GroupLaws.{group-claim, asked-in-group}
 
 -- ---- lists that grow with the lines

@@ -28,11 +28,11 @@ use Rattle.dist_check.proofs.ClosingVerdicts.{on-strong, listed-verdict, next-is
 use Rattle.dist_check.proofs.WindowLemmas.{kept-recent, member-tests}
 use Rattle.dist_check.proofs.GroupLemmas.{line-of, recent-there}
 use Rattle.dist_judge.specs.LineLaws.{HaveForms}
-use Rattle.dist_check_state.specs.LinesAt.{AreRight}
+use Rattle.dist_line_check.specs.LinesAt.{AreRight}
 use Rattle.dist_cert.specs.ListLaws.{any-from, from-any}
 use Rattle.dist_check.proofs.TestLemmas.{Tests, all-tested, any-tested, none-tested, among-tests, other-tests}
-use Rattle.dist_check_state.specs.ToldLaws.{stable, most-told, less-told}
-use Rattle.dist_check_state.specs.VerdictLaws.{IsVerdict}
+use Rattle.dist_line_check.specs.ToldLaws.{stable, most-told, less-told}
+use Rattle.dist_line_check.specs.VerdictLaws.{IsVerdict}
 
 -- the package is in each named installation
 abbrev pub InNamed : List CertRecord → List ℕ → ℕ → Type 0

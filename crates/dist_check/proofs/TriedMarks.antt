@@ -20,8 +20,8 @@ use Rattle.dist_cert.specs.Groups.{clause_of, derived, numbered, is_claim, claim
 use Rattle.dist_cert.specs.Subject.{Matter}
 use Rattle.dist_cert.specs.Tried.{EachFollows, IsTried, marked, AreMarksTried}
 use Rattle.dist_judge.specs.LineLaws.{HaveForms}
-use Rattle.dist_check_state.specs.LinesAt.{AreRight}
-use Rattle.dist_check_state.specs.ToldLaws.{stable, less-told}
+use Rattle.dist_line_check.specs.LinesAt.{AreRight}
+use Rattle.dist_line_check.specs.ToldLaws.{stable, less-told}
 use Rattle.dist_check.proofs.TriedTold.{ends-told, undecided-in-told, closed-front}
 use Rattle.dist_check.proofs.Places.{image-of}
 use Rattle.dist_check.proofs.GroupLemmas.{group-behind}

@@ -14,7 +14,7 @@ use Rattle.dist_cert.specs.declared.records.CertRecord.TheVariants as lines
 use Rattle.dist_cert.specs.Form.{Word}
 use Rattle.dist_cert.specs.Groups.{leaves_open, IsUndecidedIn}
 use Rattle.dist_cert.specs.GroupLaws.{none-closed}
-use Rattle.dist_check_state.specs.ToldLaws.{IsTold, most-told, bool-told, any-told, all-told, contains-told}
+use Rattle.dist_line_check.specs.ToldLaws.{IsTold, most-told, bool-told, any-told, all-told, contains-told}
 
 both-told : {P Q : Type 0} → IsTold P → IsTold Q → IsTold (P × Q)
 both-told (inl p) (inl q) = inl (p, q)

@@ -22,12 +22,12 @@ use Rattle.dist_subject.specs.Installed.{AreModelsHealthy}
 use Rattle.dist_subject.specs.Later.{later_matter}
 use Rattle.dist_subject.specs.Present.{present_matter}
 use Rattle.dist_judge.specs.LineLaws.{HaveForms}
-use Rattle.dist_check_state.specs.LinesAt.{AreRight}
+use Rattle.dist_line_check.specs.LinesAt.{AreRight}
 use Rattle.dist_check.specs.Means.{Means, MeansChallenged, MeansOutdated, MeansStrong, SaysChallenged, SaysOutdated}
 use Rattle.dist_judge.specs.WholeLaws.{whole_ended, whole_faultless}
 use Rattle.dist_subject.specs.Certificates.{certificates_of}
 use Rattle.dist_check.proofs.ClearKind.{clear-kind}
-use Rattle.dist_check_state.specs.ModelLaws.{WhatFollows, sound-rule}
+use Rattle.dist_line_check.specs.ModelLaws.{WhatFollows, sound-rule}
 use Rattle.dist_check.proofs.Counts.{find-claim, one-each}
 use Rattle.dist_check.proofs.Claims.{AreProven, IsClaimAt, claim-says}
 use Rattle.dist_check.proofs.LaterClaims.{AreProvenLater, LaterLaws, challenged-claim, outdated-claim}

@@ -17,7 +17,7 @@ use Rattle.dist_check_group.specs.Window.{kept_at, has_member}
 use Rattle.dist_check_state.specs.State.{StateView}
 use Rattle.dist_check.specs.AtPrivate.{IsAt}
 use Rattle.dist_check.proofs.TestLemmas.{Tests}
-use Rattle.dist_check_state.specs.ToldLaws.{IsTold, most-told, less-told}
+use Rattle.dist_line_check.specs.ToldLaws.{IsTold, most-told, less-told}
 
 recent-told : (before : List CertRecord) (number : ℕ) → IsTold (IsRecent before number)
 recent-told before number = elim (most-told 1 number) [

@@ -1,12 +1,12 @@
--- How what is kept of the lines before a line stands to these lines.
-use Rattle.std.proofs.Common.{◌≡◌, ℕ, ◌+◌, ◌↔◌, true, List, [], ◌∷◌, ◌++◌, Option, Some, None, length}
+-- How what is noted of the lines before a line stands to these lines.
+use Rattle.std.proofs.Common.{◌≡◌, ℕ, ◌+◌, ◌↔◌, true, List, [], ◌∷◌, Option, Some, None, length}
 use Rattle.std.specs.List.{All, Any, Contains}
 use Rattle.dist_cert.specs.declared.records.CertKind.{CertKind}
 use Rattle.dist_cert.specs.declared.records.CertKind.TheVariants as kinds
 use Rattle.dist_cert.specs.declared.records.CertRecord.{CertRecord}
 use Rattle.dist_cert.specs.declared.records.Header.{Header}
 use Rattle.dist_cert.specs.Form.{Word}
-use Rattle.dist_cert.specs.Groups.{derived, installations, claim_count, group, IsRefutedIn}
+use Rattle.dist_cert.specs.Groups.{installations, claim_count, group, IsRefutedIn}
 use Rattle.dist_cert.specs.Groups.{IsUndecidedIn}
 use Rattle.dist_cert.specs.ClaimRules.{yes, no}
 use Rattle.dist_cert.specs.Accepted.{claims_in}
@@ -18,7 +18,6 @@ use Rattle.dist_check_group.specs.Group.{GroupView}
 use Rattle.dist_check_group.specs.Layout.{LayoutView, present}
 use Rattle.dist_check.specs.CoverPrivate.{IsCoverOf}
 use Rattle.dist_check.specs.LaysOut.{LaysOut}
-use Rattle.dist_check_state.specs.LinesAt.{AreFuturesBy, IsQuestionOf}
 use Rattle.dist_check_state.specs.State.{StateView}
 
 -- the own question of a claim, by the kind and the variable of its package
@@ -49,21 +48,14 @@ pub record IsGroupOf (layout : LayoutView) (lines : List CertRecord) (v : ℕ) (
   pub undecided : AreClosed (IsUndecidedIn lines) layout.kind v kept.undecided
   pub gathered : IsGathered layout.kind layout (installations lines) v kept
 
--- What is kept is what these lines hold.
+-- What is noted is what these lines hold.
 pub record IsAt (matter : Matter) (h : Header) (before : List CertRecord) (s : StateView) : Type 0 where
-  pub limit : s.limit ≡ h.limit
   pub packages : s.packages ≡ matter.packages
-  pub clauses : s.log.clauses ≡ matter.inputs ++ derived before
-  pub inputs_are : s.log.inputs ≡ length matter.inputs
-  pub variables : s.log.variables ≡ matter.variables
-  pub future : AreFuturesBy matter s.future
   pub kind : s.layout.kind ≡ h.kind
   pub layout : LaysOut matter s.layout
-  pub today : h.kind ≡ kinds.Strong → (members : List ℕ) → matter.IsFuture members
   pub same : h.kind ≡ kinds.Strong → matter.variables ≡ matter.packages
   pub kept : s.window.kept ≡ latest (installations before)
   pub count : s.window.count ≡ length (installations before)
-  pub question : IsQuestionOf matter.inputs before s.question
   pub next : s.next ≡ claim_count before + 1
   pub group_is : IsGroupOf s.layout (group before) (present s.layout.kind s.next) s.group
   pub claims : s.claims ≡ claims_in before

@@ -2,6 +2,7 @@ pub mod LaysOut
 pub mod LayoutPrivate
 pub mod CoverPrivate
 pub mod AtPrivate
+pub mod CertificateLines
 pub mod Start
 pub mod StartPrivate
 pub mod Checking

@@ -11,30 +11,32 @@ use Rattle.dist_cert.specs.declared.records.Header.{Header}
 use Rattle.dist_cert.specs.Refusal.{Fits}
 use Rattle.dist_subject.specs.Basis.{Basis, IsBasisOf, matter_of}
 use Rattle.dist_subject.specs.Limited.{AreInputsWithin, PassesFirst}
-use Rattle.dist_check_state.specs.LinesAt.{AreFuturesBy}
+use Rattle.dist_line_check.specs.LinesAt.{AreFuturesBy}
 use Rattle.dist_check.specs.LaysOut.{LaysOut}
 use Rattle.dist_check_group.specs.Group.{empty_group}
+use Rattle.dist_line_check.specs.Checker.{CheckerView}
+use Rattle.dist_line_check.specs.declared.lines.Kept.{Kept}
 use Rattle.dist_check_state.specs.State.{StateView}
 
 -- What is kept behind a first line with the right numbers, of which what it is judged by keeps the numbers.
-pub record IsStart (r : PackageList) (limits : Limits) (h : Header) (s : StateView) : Type 0 where
+pub record IsStart (r : PackageList) (limits : Limits) (h : Header) (c : CheckerView) (s : StateView) : Type 0 where
   pub basis : Basis
   pub is_basis : IsBasisOf r h.kind h.essential basis
   pub fits : Fits (matter_of r basis) h
   pub kept : AreInputsWithin limits r basis
-  pub limit : s.limit ≡ h.limit
+  pub limit : c.limit ≡ h.limit
   pub packages : s.packages ≡ (matter_of r basis).packages
-  pub clauses : s.log.clauses ≡ (matter_of r basis).inputs
-  pub inputs : s.log.inputs ≡ length s.log.clauses
-  pub variables : s.log.variables ≡ (matter_of r basis).variables
+  pub clauses : c.log.clauses ≡ (matter_of r basis).inputs
+  pub inputs : c.log.inputs ≡ length c.log.clauses
+  pub variables : c.log.variables ≡ (matter_of r basis).variables
   pub kind : s.layout.kind ≡ h.kind
   pub layout : LaysOut (matter_of r basis) s.layout
-  pub future : AreFuturesBy (matter_of r basis) s.future
-  pub line_limit : s.log.line_limit ≡ limits.lines
-  pub line_literal_limit : s.log.line_literal_limit ≡ limits.line_literals
-  pub within : IsWithinLineLimits s.log
+  pub future : AreFuturesBy (matter_of r basis) c.future
+  pub line_limit : c.log.line_limit ≡ limits.lines
+  pub line_literal_limit : c.log.line_literal_limit ≡ limits.line_literals
+  pub within : IsWithinLineLimits c.log
   pub window : s.window ≡ record { kept = []; count = 0 }
-  pub question : s.question ≡ None
+  pub question : c.question ≡ None
   pub next : s.next ≡ 1
   pub group_is : s.group ≡ empty_group
   pub claims : s.claims ≡ []
@@ -47,8 +49,8 @@ pub record IsUnfit (r : PackageList) (limits : Limits) (h : Header) : Type 0 whe
   pub wrong : ¬ Fits (matter_of r basis) h
 
 -- When each answer comes.
-abbrev pub StartAnswers : PackageList → Limits → Header → Result StateView ReadCertError → Type 0
-StartAnswers r limits h (Ok s) = IsStart r limits h s
+abbrev pub StartAnswers : PackageList → Limits → Header → Result (Kept StateView) ReadCertError → Type 0
+StartAnswers r limits h (Ok kept) = IsStart r limits h kept.checker kept.notes
 StartAnswers r limits h (Err (Bad fault)) = (fault.line ≡ 1) × (fault.cause ≡ BadHeader) × IsUnfit r limits h
 StartAnswers r limits h (Err (Work (TooLarge what))) = PassesFirst r h.kind h.essential limits what
 StartAnswers r limits h (Err (Work NoMemory)) = Unit {0}

@@ -11,10 +11,10 @@ use Rattle.dist_cert.specs.declared.records.Header.{Header}
 use Rattle.dist_subject.specs.Basis.{Basis, matter_of}
 use Rattle.dist_judge.specs.Causes.{IsLarge}
 use Rattle.dist_subject.specs.Inputs.{AreInputsOf}
-use Rattle.dist_check_state.specs.LinesAt.{AreFuturesBy}
+use Rattle.dist_line_check.specs.LinesAt.{AreFuturesBy}
 use Rattle.dist_check.specs.LaysOut.{LaysOut}
 use Rattle.dist_check_group.specs.Layout.{LayoutView}
-use Rattle.dist_check_state.specs.declared.future.FutureClauses.{FutureClauses}
+use Rattle.dist_line_check.specs.declared.future.FutureClauses.{FutureClauses}
 
 -- The packages, clauses, layout and futures of what a kind and mode are judged by, which keeps the numbers.
 pub record IsSubject (r : PackageList) (limits : Limits) (kind : CertKind) (essential : Bool) (packages : ℕ)

@@ -1,21 +1,24 @@
 //! One pass over the lines of a certificate.
-ghost use Rattle.std.specs.Prelude.{◌≡◌, List, None, Option, ℕ, IfErr, IfOk};
+ghost use Rattle.std.specs.Prelude.{List, None, Option, ℕ, IfErr, IfOk};
 ghost use Rattle.dist_outside.specs.DeskView.{OnlyReads};
 ghost use Rattle.dist_outside.specs.Files.{IsReading};
 ghost use Rattle.dist_outside.specs.Reading.{bytes_left};
 ghost use Rattle.dist_repo.specs.Size.{IsWithinSize};
 ghost use Rattle.dist_cert.specs.Reading.{text_left};
 ghost use Rattle.dist_check.specs.Answers.{AcceptedMeans};
-ghost use Rattle.dist_check.specs.CheckedPrivate.{IsChecked};
+ghost use Rattle.dist_check.specs.CertificateLines.{certificate_lines};
 ghost use Rattle.dist_check.specs.Checking.{LargeCause, TextAnswers};
+ghost use Rattle.dist_line_check.specs.Checked.{IsChecked};
 ghost use Rattle.dist_judge.specs.Causes.{TextCause};
 ghost use Rattle.dist_judge.specs.Judging.{OfText};
 ghost use Rattle.dist_subject.specs.Limited.{AreStated};
 
+use crate::certificates::Certificates;
 use crate::laws::accepted_claims_hold;
 use crate::start::start;
 use dist_cert::{Claims, Header, ReadCertError, Reader, forms_are_clear};
-use dist_check_state::{State, Tools, take_line};
+use dist_check_state::State;
+use dist_line_check::{Kept, check_lines};
 use dist_outside::{Desk, Limits};
 use dist_repo::Repository;
 use dist_subject::models_are_healthy;
@@ -28,38 +31,6 @@ pub(crate) struct Checked {
     pub(crate) claims: Claims,
 }
 
-/// Takes all lines behind the first one. What is told of a text is told of each that these lines may be of.
-fn take_lines<D: Desk>(
-    alloc: Global,
-    repo: &Repository,
-    desk: &mut D,
-    limits: &Limits,
-    header: &Header,
-    reader: &mut Reader,
-    state: &mut State,
-    tools: &mut Tools,
-) -> Result<(), ReadCertError>
-    requires reading { IsReading (D.view desk.old).mode }
-    requires tools { tools.old ≡ state.old.log.variables }
-    requires start { IsChecked repo.now limits.now None header.now reader.old None state.old }
-    ensures text { (told : Option (List ℕ)) → IsChecked repo.now limits.now told header.now reader.old (text_left reader.old (D.view desk.old)) state.old
-        → OfText told (λ text. TextAnswers (λ _. header.now) (λ _. state.new.claims) repo.now limits.now text result) }
-    ensures some { (text : List ℕ) × TextAnswers (λ _. header.now) (λ _. state.new.claims) repo.now limits.now text result }
-    ensures cause { IfErr result (TextCause (D.view desk.old) (D.view desk.new)) }
-    ensures large { IfErr result (LargeCause repo.now limits.now) }
-    ensures only_reads { OnlyReads (D.view desk.old) (D.view desk.new) }
-{
-    forms_are_clear();
-    'lines: loop {
-        let _within = reader.lines();
-        let Some(step) = reader.next(desk)? else {
-            return Ok(());
-        };
-        let line = reader.lines();
-        take_line(alloc, state, tools, line, step)?;
-    }
-}
-
 /// What the text behind its first line claims, with what is kept behind that one.
 fn claims_behind<D: Desk>(
     alloc: Global,
@@ -68,33 +39,20 @@ fn claims_behind<D: Desk>(
     limits: &Limits,
     header: &Header,
     reader: &mut Reader,
-    state: State,
+    kept: Kept<State>,
 ) -> Result<Claims, ReadCertError>
     requires reading { IsReading (D.view desk.old).mode }
-    requires variables { header.now.variables ≡ state.log.variables }
-    requires start { IsChecked repo.now limits.now None header.now reader.old None state }
-    ensures text { (told : Option (List ℕ)) → IsChecked repo.now limits.now told header.now reader.old (text_left reader.old (D.view desk.old)) state
+    requires start { IsChecked (certificate_lines repo.now) limits.now None header.now reader.old None kept.checker kept.notes }
+    ensures text { (told : Option (List ℕ)) → IsChecked (certificate_lines repo.now) limits.now told header.now reader.old (text_left reader.old (D.view desk.old)) kept.checker kept.notes
         → OfText told (λ text. TextAnswers (λ _. header.now) (λ claims. claims) repo.now limits.now text result) }
     ensures some { (text : List ℕ) × TextAnswers (λ _. header.now) (λ claims. claims) repo.now limits.now text result }
     ensures cause { IfErr result (TextCause (D.view desk.old) (D.view desk.new)) }
     ensures large { IfErr result (LargeCause repo.now limits.now) }
     ensures only_reads { OnlyReads (D.view desk.old) (D.view desk.new) }
 {
-    let mut state = state;
-    let mut tools = Tools::new(alloc, header.variables)?;
-    match take_lines(
-        alloc, repo, desk, limits, header, reader, &mut state, &mut tools,
-    ) {
-        Ok(()) => {
-            drop(tools);
-            Ok(state.into_claims())
-        }
-        Err(error) => {
-            drop(tools);
-            drop(state);
-            Err(error)
-        }
-    }
+    let certificates = Certificates { repo };
+    let notes = check_lines(alloc, desk, &certificates, reader, kept)?;
+    Ok(notes.into_claims())
 }
 
 /// Checks the text that a desk is reading.
@@ -121,7 +79,7 @@ pub(crate) fn check_text<D: Desk>(
     let _in_order = repo.len();
     let mut reader = Reader::new(alloc, limits);
     let header = reader.header(desk)?;
-    let state = start(alloc, repo, &header, limits)?;
-    let claims = claims_behind(alloc, repo, desk, limits, &header, &mut reader, state)?;
+    let kept = start(alloc, repo, &header, limits)?;
+    let claims = claims_behind(alloc, repo, desk, limits, &header, &mut reader, kept)?;
     Ok(Checked { header, claims })
 }

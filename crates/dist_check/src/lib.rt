@@ -4,6 +4,7 @@
 //! (`accepted_claims_hold` and its fellows): they hold of every text, whoever wrote it.
 #![tactic(auto)]
 
+mod certificates;
 mod checking;
 mod file;
 mod laws;

@@ -9,11 +9,12 @@ ghost use Rattle.dist_check.specs.StartPrivate.{HasNumbers, IsLargeFault, IsSubj
 use crate::layout::layout_of;
 use dist_cert::{CertKind, Header, ReadCertError};
 use dist_check_group::Layout;
-use dist_check_state::{FutureClauses, State};
+use dist_check_state::State;
 use dist_clause::ClauseSet;
 use dist_derive::Log;
 use dist_future::future_clauses_are_two_parts;
 use dist_judge::bad_heading;
+use dist_line_check::{Checker, FutureClauses, Kept};
 use dist_outside::Limits;
 use dist_repo::Repository;
 use dist_space::packages_come_first;
@@ -127,7 +128,7 @@ pub(crate) fn start(
     repo: &Repository,
     header: &Header,
     limits: &Limits,
-) -> Result<State, ReadCertError>
+) -> Result<Kept<State>, ReadCertError>
     requires size { IsWithinSize repo.now }
     requires limits { AreStated limits.now }
     ensures { StartAnswers repo.now limits.now header.now result }
@@ -142,6 +143,14 @@ pub(crate) fn start(
     if !has_numbers(packages, &inputs, header) {
         return Err(bad_heading());
     }
+    let variables = inputs.variables();
     let log = Log::covered(alloc, inputs, limits.lines, limits.line_literals)?;
-    Ok(State::new(alloc, header.limit, packages, layout, future, log))
+    let notes = State::new(alloc, packages, variables, layout);
+    match Checker::new(alloc, header.limit, future, log) {
+        Ok(checker) => Ok(Kept { checker, notes }),
+        Err(error) => {
+            drop(notes);
+            Err(ReadCertError::from(error))
+        }
+    }
 }

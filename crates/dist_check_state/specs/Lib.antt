@@ -1,9 +1,1 @@
-pub mod Since
-pub mod Future
 pub mod State
-pub mod LinesAt
-pub mod FirstFaultLaws
-pub mod VerdictLaws
-pub mod ToldLaws
-pub mod ModelLaws
-pub mod LinesAtLaws

@@ -1,26 +1,12 @@
-//! What a checker keeps of the lines before a line: the first fault of the next one by it, and what it makes of it.
+//! What a checker of certificates notes of the lines before a line: the latest installations, the group of the next claim, and
+//! the claims. By it it tells the first fault of a claim or of the end.
 //!
-//! An installation is put into a set, which is emptied again behind its test. That what is kept is enough is shown in
-//! dist_check, against the definition of acceptance.
+//! That what is noted is enough is shown in dist_check, against the definition of acceptance.
 #![tactic(auto)]
 
-mod above;
 mod from_zero;
-mod future;
 mod judging;
 mod kinds;
-mod lines;
-mod literals;
-mod members;
-mod question;
 mod state;
-mod tools;
 
-pub use future::FutureClauses;
-pub use judging::{
-    judge_derived, judge_installation, judge_question, judge_refuted, judge_undecided,
-};
-pub use lines::take_line;
-pub use question::Question;
 pub use state::State;
-pub use tools::Tools;

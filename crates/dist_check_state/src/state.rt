@@ -1,44 +1,30 @@
-//! What is kept of the lines before a line: what is told of the next one, and what it makes of it.
-ghost use Rattle.std.specs.Prelude.{◌≡◌, ◌&&◌, ◌+◌, ◌<◌, ◌≤◌, ◌^◌, [], ◌∷◌, ◌++◌, None, Some, IfErr, IfOk, OnOk, length};
-ghost use Rattle.dist_derive.specs.ClauseLog.{IsWithinLineLimits};
-ghost use Rattle.dist_cert.specs.Groups.{clause_of};
+//! What is noted of the lines before a line: what is told of the next claim, and what a line makes of it.
+ghost use Rattle.std.specs.Prelude.{◌≡◌, ◌&&◌, ◌+◌, ◌<◌, ◌≤◌, ◌^◌, [], ◌∷◌, false, true, IfOk, OnOk};
+ghost use Rattle.dist_base.specs.declared.TheConstants.{MAX_VARIABLES};
 ghost use Rattle.dist_cert.specs.Form.{KeepsRules};
 ghost use Rattle.dist_cert.specs.Rising.{AreRising};
-ghost use Rattle.dist_check_state.specs.Since.{AreLiteralsOver, IsAppendCause};
 ghost use Rattle.dist_check_group.specs.Layout.{present};
 ghost use Rattle.dist_check_group.specs.Window.{has_member, kept_at};
 ghost use Rattle.dist_check_group.specs.Group.{TellsRules, empty_group};
 ghost use Rattle.dist_check_group.specs.Challenge.{TellsChallenge};
-ghost use Rattle.dist_check_state.specs.State.{Allows, Answers, Becomes, Installs, StopsAt, Tells, TellsClaim, TellsListed, after_claim, holds_alive, holds_outdated, holds_uninstallable, is_challenged, is_next, is_outdated, is_strong};
+ghost use Rattle.dist_check_state.specs.State.{Allows, Answers, Installs, Tells, TellsClaim, TellsListed, after_claim, after_line, holds_alive, holds_outdated, holds_uninstallable, is_challenged, is_next, is_outdated, is_strong};
 
 use crate::from_zero::{from_zero, pairs_from_zero};
-use crate::future::FutureClauses;
-use crate::judging::{
-    is_next, judge_claim, judge_derived, judge_end, judge_installation, judge_question,
-    judge_refuted, judge_undecided,
-};
+use crate::judging::{is_next, judge_claim, judge_end};
 use crate::kinds::{is_challenged, is_outdated, is_strong, present};
-use crate::question::Question;
-use crate::tools::Tools;
 use dist_cert::{CertCause, CertRecord, Claim, Claims, Literals, Numbers};
 use dist_check_group::{
     ChallengeClaim, Group, Layout, StrongClaim, Window, judge_challenge, judge_rules,
 };
-use dist_derive::Log;
-use dist_outside::WorkError;
 use std::alloc::{AllocError, Global};
 use std::marker::Model;
 
-/// What is kept of the lines before a line.
+/// What is noted of the lines before a line.
 #[derive(Drop)]
 pub struct State {
-    limit: u32,
     packages: u32,
     layout: Layout,
-    log: Log,
-    future: FutureClauses,
     window: Window,
-    question: Option<Question>,
     /// The package of the next claim.
     next: u32,
     group: Group,
@@ -46,75 +32,45 @@ pub struct State {
 }
 
 impl Model for State {
-    ghost use Rattle.std.specs.Prelude.{◌≡◌, ◌+◌, ◌≤◌, length};
-    ghost use Rattle.std.specs.Option.{ForSome};
-    ghost use Rattle.dist_check_state.specs.Since.{AreLiteralsOver};
+    ghost use Rattle.std.specs.Prelude.{◌+◌, ◌≤◌};
+    ghost use Rattle.dist_base.specs.declared.TheConstants.{MAX_VARIABLES};
     ghost use Rattle.dist_check_state.specs.State.{StateView};
 
     ghost Value = { StateView };
 
     ghost view = { λ s. record {
-      limit = s.limit;
       packages = s.packages;
       layout = s.layout;
-      log = s.log;
-      future = s.future;
       window = s.window;
-      question = s.question;
       next = s.next;
       group = s.group;
       claims = s.claims;
     } };
 
-    ghost invariant = { λ s. (s.packages ≤ s.log.variables) × (s.next ≤ s.packages + 1) × ForSome s.question (λ q. AreLiteralsOver s.log.variables q.assumptions) × ForSome s.question (λ q. q.last ≤ length s.log.clauses) };
+    ghost invariant = { λ s. (s.packages ≤ MAX_VARIABLES) × (s.next ≤ s.packages + 1) };
 }
 
 impl State {
     /// Before the first line behind the header. Each package has a variable.
-    pub fn new(
-        alloc: Global,
-        limit: u32,
-        packages: u32,
-        layout: Layout,
-        future: FutureClauses,
-        log: Log,
-    ) -> State
-        requires { packages ≤ log.variables }
-        ensures within { IsWithinLineLimits result.log }
-        ensures value { result ≡ record {
-          limit = limit;
+    pub fn new(alloc: Global, packages: u32, variables: u32, layout: Layout) -> State
+        requires { packages ≤ MAX_VARIABLES }
+        ensures { result ≡ record {
           packages = packages;
           layout = layout;
-          log = log;
-          future = future;
           window = record { kept = []; count = 0 };
-          question = None;
           next = 1;
           group = empty_group;
           claims = [];
         } }
     {
-        let _within = log.len();
-        let variables = log.variables();
         State {
-            limit,
             packages,
             layout,
-            log,
-            future,
             window: Window::new(alloc, variables),
-            question: None,
             next: 1,
             group: Group::new(alloc),
             claims: Claims::new(alloc),
         }
-    }
-
-    /// What this call tells is that the derived lines keep their limits.
-    pub(crate) fn keep_limits(&self)
-        ensures { IsWithinLineLimits self.now.log }
-    {
-        let _within = self.log.len();
     }
 
     /// The claims.
@@ -124,36 +80,12 @@ impl State {
         self.claims
     }
 
-    /// The first fault of a line, if there is one.
-    pub(crate) fn judge(
-        &mut self,
-        alloc: Global,
-        tools: &mut Tools,
-        step: &CertRecord,
-    ) -> Result<Option<CertCause>, AllocError>
+    /// The first fault of a claim or of the end, if there is one. Of other lines it tells none.
+    pub fn judge(&self, alloc: Global, step: &CertRecord) -> Result<Option<CertCause>, AllocError>
         requires form { KeepsRules step.now }
-        requires tools { tools.old ≡ self.old.log.variables }
-        ensures told { IfOk result (Tells self.old step.now) }
-        ensures same { self.new ≡ self.old }
-        ensures ready { tools.new ≡ tools.old }
+        ensures { IfOk result (Tells self.now step.now) }
     {
         match step {
-            CertRecord::Question(literals) => { Ok(judge_question(&self.log, literals.as_slice())) }
-            CertRecord::Derived(literals, hints) => {
-                judge_derived(&self.log, tools, literals.as_slice(), hints.as_slice())
-            }
-            CertRecord::Refuted(hints) => {
-                judge_refuted(&self.log, tools, &self.question, hints.as_slice())
-            }
-            CertRecord::Installation(variables) => Ok(judge_installation(
-                &self.log,
-                tools,
-                self.future,
-                variables.as_slice(),
-            )),
-            CertRecord::Undecided => {
-                judge_undecided(&mut self.log, tools, self.limit, &self.question)
-            }
             CertRecord::NotInstallable(package) => {
                 Ok(self.judge_claim(*package, self.holds_uninstallable()))
             }
@@ -179,6 +111,11 @@ impl State {
                 undecided.as_slice(),
             ),
             CertRecord::End => Ok(judge_end(self.next, self.packages)),
+            CertRecord::Question(_)
+            | CertRecord::Derived(_, _)
+            | CertRecord::Refuted(_)
+            | CertRecord::Installation(_)
+            | CertRecord::Undecided => Ok(None),
         }
     }
 
@@ -186,7 +123,6 @@ impl State {
     fn next_variable(&self) -> u32
         ensures { result ≡ present self.now.layout.kind self.now.next }
     {
-        let _stated = self.log.variables();
         present(self.layout.kind(), self.next)
     }
 
@@ -273,101 +209,54 @@ impl State {
         judge_challenge(alloc, &self.layout, &self.window, &self.group, &claim)
     }
 
-    /// Takes a line that has no fault.
-    pub(crate) fn take(
-        &mut self,
-        alloc: Global,
-        tools: &mut Tools,
-        step: CertRecord,
-    ) -> Result<(), WorkError>
+    /// Notes a claim or the end, which has no fault. Other lines change nothing.
+    pub fn take(&mut self, step: CertRecord) -> Result<(), AllocError>
         requires form { KeepsRules step }
         requires allowed { Allows self.old step }
-        requires count { self.old.window.count + 1 < 2 ^ 64 }
-        ensures ok { OnOk result (Becomes self.old step self.new) }
-        ensures err { IfErr result (StopsAt self.old step) }
-        ensures ready { tools.new ≡ tools.old }
+        ensures { OnOk result (self.new ≡ after_line self.old step) }
     {
         match step {
-            CertRecord::Question(literals) => {
-                self.open(literals);
-                Ok(())
-            }
-            CertRecord::Derived(literals, hints) => {
-                drop(hints);
-                let derived = self.derive(tools, literals.as_slice());
-                drop(literals);
-                derived
-            }
-            CertRecord::Refuted(hints) => {
-                drop(hints);
-                Ok(self.close(true)?)
-            }
-            CertRecord::Installation(variables) => Ok(self.add_installation(alloc, variables)?),
-            CertRecord::Undecided => Ok(self.close(false)?),
-            CertRecord::NotInstallable(_) => Ok(self.claim(Claim::Uninstallable)?),
-            CertRecord::Unknown(_) => Ok(self.claim(Claim::Unknown)?),
+            CertRecord::NotInstallable(_) => self.claim(Claim::Uninstallable),
+            CertRecord::Unknown(_) => self.claim(Claim::Unknown),
             CertRecord::Strong(_, named, on, undecided) => {
                 drop(named);
-                Ok(self.claim(Claim::Strong(from_zero(on), from_zero(undecided)))?)
+                self.claim(Claim::Strong(from_zero(on), from_zero(undecided)))
             }
-            CertRecord::Outdated(_) => Ok(self.claim(Claim::Outdated)?),
-            CertRecord::Alive(_, _) => Ok(self.claim(Claim::Alive)?),
+            CertRecord::Outdated(_) => self.claim(Claim::Outdated),
+            CertRecord::Alive(_, _) => self.claim(Claim::Alive),
             CertRecord::Challenged(_, named, by, undecided) => {
                 drop(named);
-                Ok(self.claim(Claim::Challenged(pairs_from_zero(by), pairs_from_zero(undecided)))?)
+                self.claim(Claim::Challenged(pairs_from_zero(by), pairs_from_zero(undecided)))
             }
-            CertRecord::End => {
-                drop(self.question.take());
-                Ok(())
-            }
+            CertRecord::Question(_)
+            | CertRecord::Derived(_, _)
+            | CertRecord::Refuted(_)
+            | CertRecord::Installation(_)
+            | CertRecord::Undecided
+            | CertRecord::End => Ok(()),
         }
     }
 
-    /// Opens a question.
-    fn open(&mut self, assumptions: Literals)
-        requires { AreLiteralsOver self.old.log.variables assumptions }
-        ensures { self.new ≡ record self.old { question = Some (record { assumptions = assumptions; last = length self.old.log.clauses }) } }
+    /// Notes that a question is refuted.
+    pub fn add_refuted(&mut self, question: Literals) -> Result<(), AllocError>
+        ensures { OnOk result (Answers self.old question true self.new) }
     {
-        self.question = Some(Question::new(assumptions, self.log.len()));
-    }
-
-    /// Adds a derived line.
-    fn derive(&mut self, tools: &mut Tools, literals: &[(u32, bool)]) -> Result<(), WorkError>
-        requires { AreLiteralsOver self.old.log.variables literals.now }
-        ensures ok { OnOk result (self.new ≡ record self.old { log = record self.old.log { clauses = self.old.log.clauses ++ clause_of literals.now ∷ [] } }) }
-        ensures err { IfErr result (IsAppendCause self.old.log (clause_of literals.now)) }
-        ensures ready { tools.new ≡ tools.old }
-    {
-        let _within = self.log.inputs();
-        tools.append(&mut self.log, literals)
-    }
-
-    /// Closes the open question, as refuted or as undecided.
-    fn close(&mut self, refuted: bool) -> Result<(), AllocError>
-        ensures { OnOk result (Answers self.old self.new refuted) }
-    {
-        let kind = self.layout.kind();
         let variable = self.next_variable();
-        let Some(question) = self.question.take() else {
-            return Ok(());
-        };
-        if refuted {
-            let added = self
-                .group
-                .add_refuted(kind, variable, question.assumptions());
-            drop(question);
-            added
-        } else {
-            let added = self
-                .group
-                .add_undecided(kind, variable, question.assumptions());
-            drop(question);
-            added
-        }
+        self.group
+            .add_refuted(self.layout.kind(), variable, question.as_slice())
     }
 
-    /// Adds an installation.
-    fn add_installation(&mut self, alloc: Global, variables: Numbers) -> Result<(), AllocError>
+    /// Notes that a question is left undecided.
+    pub fn add_undecided(&mut self, question: Literals) -> Result<(), AllocError>
+        ensures { OnOk result (Answers self.old question false self.new) }
+    {
+        let variable = self.next_variable();
+        self.group
+            .add_undecided(self.layout.kind(), variable, question.as_slice())
+    }
+
+    /// Notes an installation.
+    pub fn add_installation(&mut self, alloc: Global, variables: Numbers) -> Result<(), AllocError>
         requires rising { AreRising variables }
         requires count { self.old.window.count + 1 < 2 ^ 64 }
         ensures { OnOk result (Installs self.old variables self.new) }
@@ -383,9 +272,7 @@ impl State {
         requires { self.old.next ≤ self.old.packages }
         ensures { OnOk result (self.new ≡ after_claim self.old (claim ∷ [])) }
     {
-        let _stated = self.log.variables();
         self.claims.push(claim)?;
-        drop(self.question.take());
         self.group.clear();
         self.next += 1;
         Ok(())

@@ -12,14 +12,14 @@ use Rattle.dist_cert.specs.Writing.{ended}
 use Rattle.dist_cert.specs.declared.records.CertRecord.{CertRecord}
 use Rattle.dist_cert.specs.declared.records.CertRecord.TheVariants.{End}
 use Rattle.dist_findings.specs.AnswerFiles.{Inputs}
-use Rattle.dist_inquiry.specs.Inquiry.{Setting}
+use Rattle.dist_line_write.specs.Script.{Script}
 use Rattle.dist_inquiry.specs.Written.{Course, IsCutText, IsWholeText, LeavesCut}
 
 all_of : (bytes : List ℕ) → IsFrontOf bytes bytes
 all_of bytes = record { count = length bytes; within = omega arith; is = sym (take_all (length bytes) bytes (omega arith)) }
 
 -- a whole text is its lines with the end, which is a front of one line more
-pub whole_is_cut : (g : Setting) (course : Course) (text : List ℕ) → IsWholeText g course text → IsCutText g course text
+pub whole_is_cut : (g : Script) (course : Course) (text : List ℕ) → IsWholeText g course text → IsCutText g course text
 whole_is_cut g course text w =
     let one : CertRecord → List ℕ = λ s. record_text s ++ line_feed ∷ [] in
     let last : lines_text (w.lines ++ End ∷ []) ≡ lines_text w.lines ++ ended (record_text End) =
@@ -34,7 +34,7 @@ whole_is_cut g course text w =
     }
 
 -- what is left, by the clauses that the file is written for
-pub leaves_cut : (Is : Inputs → Type 0) (g : Inputs → Setting) (course : Inputs → Course) (name : List ℕ) (old new : DeskView)
+pub leaves_cut : (Is : Inputs → Type 0) (g : Inputs → Script) (course : Inputs → Course) (name : List ℕ) (old new : DeskView)
     → ((basis : Inputs) × Is basis × LeavesCut (g basis) (course basis) name old new)
     → (new.files ≡ old.files) ⊎ ((text : List ℕ) × ((basis : Inputs) × Is basis × IsCutText (g basis) (course basis) text)
     × (new.files ≡ with_file old.files name text))

@@ -18,8 +18,8 @@ use Rattle.dist_space.specs.Space.{IsMeaning, IsSpace, SpaceView, cluster_classe
 use Rattle.dist_space.specs.VariableLaws.{place-at, variable-range}
 use Rattle.dist_space.specs.declared.meaning.Meaning.{Meaning}
 use Rattle.dist_space.specs.declared.meaning.Meaning.TheVariants.{Now, Present, At, New, Kept, Fresh}
-use Rattle.dist_sweep.specs.TrueOnesLaws.{contained, true-low, true-ones, true-rising, true-upto}
-use Rattle.dist_sweep.specs.Words.{true_variables}
+use Rattle.dist_line_write.specs.TrueOnesLaws.{contained, true-low, true-ones, true-rising, true-upto}
+use Rattle.dist_line_write.specs.Words.{true_variables}
 use Rattle.dist_covering.specs.Used.{AreUsed}
 use Rattle.dist_covering.specs.Used.{AreFlags, IsFlagged, Uses, cluster_at, cluster_meant}
 use Rattle.dist_covering.specs.PairLaws.{Means, means, cluster-is, in-own}

@@ -6,8 +6,9 @@ ghost use Rattle.dist_covering.specs.Used.{AreFlags, AreUsed, IsFlagged, cluster
 
 use dist_cert::{Items, Numbers};
 use dist_clause::Assignment;
+use dist_line_write::true_variables;
 use dist_space::{Meaning, Space};
-use dist_sweep::{next_true, true_variables};
+use dist_sweep::next_true;
 use std::alloc::{AllocError, Global};
 use std::marker::Model;
 
@@ -22,7 +23,7 @@ pub(crate) struct Used {
 
 impl Model for Used {
     ghost use Rattle.std.specs.Prelude.{◌≡◌, ℕ, List, length};
-    ghost use Rattle.dist_sweep.specs.Words.{true_variables};
+    ghost use Rattle.dist_line_write.specs.Words.{true_variables};
 
     ghost Value = { List ℕ };
 

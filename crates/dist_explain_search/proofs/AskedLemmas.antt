@@ -17,12 +17,11 @@ use Rattle.dist_findings.specs.Findings.{findings}
 use Rattle.dist_findings.specs.declared.finding.Finding.{Finding}
 use Rattle.dist_solver.specs.declared.answers.Answer.{Answer}
 use Rattle.dist_solver.specs.declared.answers.Answer.TheVariants as answers
-use Rattle.dist_sweep.specs.Asking.{AskerView, is_derived, question_lines}
-use Rattle.dist_sweep.specs.Words.{closing_line}
+use Rattle.dist_line_write.specs.Asking.{AskerView, is_derived, question_lines, Says}
+use Rattle.dist_line_write.specs.Script.{AreAsked, Script}
+use Rattle.dist_line_write.specs.ScriptLaws.{question-asked}
+use Rattle.dist_line_write.specs.Words.{closing_line}
 use Rattle.dist_inquiry.specs.AnswerText.{NoteMore, finding_of}
-use Rattle.dist_inquiry.specs.Asking.{Says}
-use Rattle.dist_inquiry.specs.Inquiry.{AreAsked, Setting}
-use Rattle.dist_inquiry.specs.InquiryLaws.{question-asked}
 use Rattle.dist_explain_search.specs.ExplainOrder.{IsNextQuestion}
 use Rattle.dist_explain_search.specs.SearchPrivate.{AreNumbers, Goes, HasJust, IsAtCore, IsSearching, explain_noting, question_of}
 use Rattle.dist_explain_search.proofs.GoingLemmas.{Place}
@@ -63,7 +62,7 @@ asks-one lines question between answer other all there =
 -- ---- the question
 
 -- The question was asked behind the lines, and this is what is there then.
-pub record IsAskedFor (g : Setting) (asked : Asked) (lines : List CertRecord) (question : List Word) (old new : DeskView) (b : AskerView)
+pub record IsAskedFor (g : Script) (asked : Asked) (lines : List CertRecord) (question : List Word) (old new : DeskView) (b : AskerView)
     (after : NotesView) (answer : Answer) : Type 0 where
   pub added : List CertRecord
   pub grew : FileGrew (lines_text added) old new
@@ -79,7 +78,7 @@ pub record IsAskedFor (g : Setting) (asked : Asked) (lines : List CertRecord) (q
 numbers-of : Asked → List ℕ
 numbers-of asked = 0 ∷ asked.packages ∷ asked.relations ∷ asked.number ∷ []
 
-pub asked-for : (g : Setting) (asked : Asked) (lines : List CertRecord) (question : List Word) (old new : DeskView) (a b : AskerView)
+pub asked-for : (g : Script) (asked : Asked) (lines : List CertRecord) (question : List Word) (old new : DeskView) (a b : AskerView)
     (notes after : NotesView) (answer : Answer) → NoteMore explain_noting old new a b notes after question answer
     → IsSearching g asked lines a notes → IsNextQuestion asked lines question → IsAskedFor g asked lines question old new b after answer
 unfolding numbers-of
@@ -107,7 +106,7 @@ same-numbers asked numbers others question upto are same selects =
     selects-one asked (question_of asked numbers) numbers others upto (question-selects asked numbers are)
     (subst (λ q. Selects asked q others) same selects)
 
-pub just-refuted : (g : Setting) (asked : Asked) (lines : List CertRecord) (numbers hints : List ℕ) (old new : DeskView) (b : AskerView) (after : NotesView)
+pub just-refuted : (g : Script) (asked : Asked) (lines : List CertRecord) (numbers hints : List ℕ) (old new : DeskView) (b : AskerView) (after : NotesView)
     → asked.number ≤ asked.packages → AreNumbers asked numbers
     → (x : IsAskedFor g asked lines (question_of asked numbers) old new b after (answers.Refuted hints))
     → ((question : List Word) (others : List ℕ) → Contains lines (Question question) → Selects asked question others → All (Contains numbers) others

@@ -20,14 +20,14 @@ use Rattle.dist_findings.specs.declared.finding.Finding.{Finding}
 use Rattle.dist_findings.specs.declared.finding.Finding.TheVariants as finding
 use Rattle.dist_solver.specs.declared.answers.Answer.{Answer}
 use Rattle.dist_solver.specs.declared.answers.Answer.TheVariants as answers
-use Rattle.dist_sweep.specs.Asking.{AskerView}
-use Rattle.dist_sweep.specs.TrueOnesLaws.{true-ones}
-use Rattle.dist_sweep.specs.Words.{true_variables}
+use Rattle.dist_line_write.specs.Asking.{AskerView}
+use Rattle.dist_line_write.specs.Script.{Script}
+use Rattle.dist_line_write.specs.ScriptLaws.{BeginsLaw}
+use Rattle.dist_line_write.specs.TrueOnesLaws.{true-ones}
+use Rattle.dist_line_write.specs.Words.{true_variables}
 use Rattle.dist_inquiry.specs.AnswerText.{NoteMore, finding_of}
-use Rattle.dist_inquiry.specs.Inquiry.{Setting}
 use Rattle.dist_explain_search.specs.ExplainOrder.{IsNextQuestion}
 use Rattle.dist_explain_search.specs.SearchPrivate.{AreNumbers, FitsAsked, Goes, HasJust, IsAtCore, IsSmaller, Marks, explain_noting, others_of, question_of}
-use Rattle.dist_sweep.specs.ScriptLaws.{BeginsLaw}
 use Rattle.dist_explain_search.proofs.AskedLemmas.{IsAskedFor, asked-for, just-refuted, same-numbers}
 use Rattle.dist_explain_search.proofs.GoingLemmas.{goes-on}
 use Rattle.dist_explain_search.proofs.QuestionLemmas.{filter-are, filter-few, filter-within, not-all, one-left, others-but}
@@ -37,14 +37,14 @@ use Rattle.dist_explain_search.proofs.QuestionLemmas.{question-selects, question
 
 module _ (asked : Asked) (numbers : List ℕ) (p : ℕ → Bool) (upto : asked.number ≤ asked.packages) (are : AreNumbers asked numbers)
     (less : length (filter p numbers) < length numbers) where
-  core-once : (g : Setting) (lines : List CertRecord) (core : IsAtCore g asked lines numbers [] []) (other : List Word)
+  core-once : (g : Script) (lines : List CertRecord) (core : IsAtCore g asked lines numbers [] []) (other : List Word)
       → Contains lines (Question other) → ¬ Selects asked other (filter p numbers)
   core-once g lines core other there selects = elim (core.so_far other (filter p numbers) there selects (filter-within p numbers)) [
     | inl all ↦ not-all numbers (filter p numbers) are.rising (filter-are asked p numbers are).rising less (filter-within p numbers) all
     | inr any ↦ none-any (λ one. AreAllBut numbers one (filter p numbers)) any
   ]
 
-  pub core-next : (g : Setting) (lines : List CertRecord) → HasJust asked numbers g lines → IsNextQuestion asked lines (question_of asked (filter p numbers))
+  pub core-next : (g : Script) (lines : List CertRecord) → HasJust asked numbers g lines → IsNextQuestion asked lines (question_of asked (filter p numbers))
   core-next g lines just = record {
     numbers = filter p numbers;
     selects = question-selects asked (filter p numbers) (filter-are asked p numbers are);
@@ -102,7 +102,7 @@ module _ (asked : Asked) (core : List ℕ) (one : ℕ) (done : List ℕ) (are : 
   pub others-are : AreNumbers asked (others_of core one)
   others-are = filter-are asked (other-than one) core are
 
-  less-once : (g : Setting) (lines : List CertRecord) (later : List Finding) (at : IsAtCore g asked lines core later done) (other : List Word)
+  less-once : (g : Script) (lines : List CertRecord) (later : List Finding) (at : IsAtCore g asked lines core later done) (other : List Word)
       → Contains lines (Question other) → ¬ Selects asked other (others_of core one)
   less-once g lines later at other has selects =
       elim (at.so_far other (others_of core one) has selects (filter-within (other-than one) core)) [
@@ -111,7 +111,7 @@ module _ (asked : Asked) (core : List ℕ) (one : ℕ) (done : List ℕ) (are : 
             (one-left core any.1 one (others_of core one) any.4 there lacks)
       ]
 
-  pub less-next : (g : Setting) (lines : List CertRecord) → Marks asked core done g lines
+  pub less-next : (g : Script) (lines : List CertRecord) → Marks asked core done g lines
       → IsNextQuestion asked lines (question_of asked (others_of core one))
   less-next g lines marks = record {
     numbers = others_of core one;
@@ -153,8 +153,8 @@ module _ (asked : Asked) (core : List ℕ) (one : ℕ) (done : List ℕ) (are : 
     -- a finding that marks it
     less-marked : (answer : Answer) → NoteMore explain_noting old new a b n m (question_of asked (others_of core one)) answer
         → ¬ RefutesSome asked (finding_of (question_of asked (others_of core one)) answer)
-        → ((g : Setting) (lines : List CertRecord) → Marks asked core done g lines
-        → IsAskedFor g asked lines (question_of asked (others_of core one)) old new b m answer → a.log.variables ≡ g.inputs.variables
+        → ((g : Script) (lines : List CertRecord) → Marks asked core done g lines
+        → IsAskedFor g asked lines (question_of asked (others_of core one)) old new b m answer → a.log.variables ≡ g.variables
         → ShowsNeeded asked core one (finding_of (question_of asked (others_of core one)) answer)
         ⊎ LeavesOpen asked core one (finding_of (question_of asked (others_of core one)) answer))
         → Goes asked (Marks asked core done) (Marks asked core (done ++ one ∷ [])) old new a b n m
@@ -235,7 +235,7 @@ module _ (asked : Asked) (numbers core : List ℕ) (p : ℕ → Bool) (are : Are
   smaller-by = subst (IsSmaller asked numbers) (sym is)
       (record { are = filter-are asked p numbers are; within = filter-within p numbers; few = filter-few p numbers })
 
-  pub next-by : asked.number ≤ asked.packages → length core < length numbers → (g : Setting) (lines : List CertRecord) → HasJust asked numbers g lines
+  pub next-by : asked.number ≤ asked.packages → length core < length numbers → (g : Script) (lines : List CertRecord) → HasJust asked numbers g lines
       → IsNextQuestion asked lines (question_of asked core)
   next-by upto less g lines just =
       subst (λ (ns : List ℕ). IsNextQuestion asked lines (question_of asked ns)) (sym is)

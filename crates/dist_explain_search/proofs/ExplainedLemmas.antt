@@ -26,10 +26,10 @@ use Rattle.dist_findings.specs.AnswerFiles.{Inputs}
 use Rattle.dist_findings.specs.Answers.{IsAnswered}
 use Rattle.dist_findings.specs.Findings.{findings}
 use Rattle.dist_findings.specs.declared.finding.Finding.{Finding}
-use Rattle.dist_sweep.specs.Asking.{AskerView}
+use Rattle.dist_line_write.specs.Asking.{AskerView}
+use Rattle.dist_line_write.specs.Script.{Passes}
 use Rattle.dist_inquiry.specs.Inquiring.{InquiryAnswers, MayInquire}
-use Rattle.dist_inquiry.specs.Inquiry.{Passes}
-use Rattle.dist_inquiry.specs.StartLaws.{heading-by, log-at-start, new_asker}
+use Rattle.dist_inquiry.specs.StartLaws.{alone-stand, heading-by, log-at-start, new_asker}
 use Rattle.dist_inquiry.specs.Written.{LeavesCut, WrittenAnswers}
 use Rattle.dist_explain_search.specs.ExplainAnswers.{ExplainAnswers, TellsFirst, first_numbers}
 use Rattle.dist_explain_search.specs.SearchPrivate.{FitsAsked, Leaves, MayBegin, RunsSearch, TellsAnswer, TellsOf, WritesFile}
@@ -109,7 +109,8 @@ module _ (r : PackageList) (number limit : ℕ) (limits : Limits) (set : ClauseL
             within = inputs.within;
             fits = record { packages_are = refl; variables_are = all; from_one = above; upto = within };
           };
-          log = log-at-start (explanation_files r) limits (numbers_of r number limit set) set limit over refl;
+          log = log-at-start (explanation_files r) limits (numbers_of r number limit set) set limit refl;
+          stand = alone-stand set.variables set.clauses over;
           writer = refl;
           keeps = (are, subst (λ (k : Asked). AreNotesOf k [] notes) are noted);
         }

@@ -10,17 +10,17 @@ use Rattle.dist_cert.specs.Form.{Word}
 use Rattle.dist_cert.specs.declared.records.CertRecord.{CertRecord}
 use Rattle.dist_explain.specs.NotesPrivate.{NotesView}
 use Rattle.dist_explain.specs.declared.asked.Asked.{Asked}
-use Rattle.dist_sweep.specs.Asking.{AskerView}
-use Rattle.dist_sweep.specs.ScriptLaws.{BeginsLaw, TwiceLaw, by-exit, lines-more}
 use Rattle.dist_inquiry.specs.Asking.{AskStops}
-use Rattle.dist_inquiry.specs.Inquiry.{Setting}
-use Rattle.dist_inquiry.specs.InquiryLaws.{asked-join, stops-after, stops-asking, stops-for-memory}
+use Rattle.dist_line_write.specs.Asking.{AskerView}
+use Rattle.dist_line_write.specs.Script.{Script}
+use Rattle.dist_line_write.specs.ScriptLaws.{BeginsLaw, TwiceLaw, by-exit, lines-more, asked-join, next-behind, stops-after}
+use Rattle.dist_line_write.specs.ScriptLaws.{stops-asking, stops-for-memory}
 use Rattle.dist_explain_search.specs.ExplainOrder.{IsNextQuestion}
 use Rattle.dist_explain_search.specs.SearchPrivate.{Goes, GoesNot, IsSearching}
 
 -- what holds of lines
 abbrev pub Place : Type 1
-Place = Setting → List CertRecord → Type 0
+Place = Script → List CertRecord → Type 0
 
 module _ (twice : TwiceLaw) (asked : Asked) (From : Place) where
   pub goes-join : (Mid To : Place) (first mid last : DeskView) (a b d : AskerView) (n m k : NotesView) → Goes asked From Mid first mid a b n m
@@ -42,7 +42,8 @@ module _ (twice : TwiceLaw) (asked : Asked) (From : Place) where
       → GoesNot asked Mid mid last b m error → GoesNot asked From first last a n error
   goes-stop Mid first mid last a b n m error before_it behind g lines searching from =
       let x = before_it g lines searching from in
-      stops-after twice g (IsNextQuestion asked) lines x.added first mid last error x.grew x.in_order (behind g (lines ++ x.added) x.searching x.holds)
+      stops-after twice g (IsNextQuestion asked) lines x.added first mid last error x.grew x.in_order
+      (next-behind g [] lines x.added x.searching.at.next) (behind g (lines ++ x.added) x.searching x.holds)
 
 pub stops-memory : BeginsLaw → (asked : Asked) (From : Place) (d : DeskView) (a : AskerView) (n : NotesView) → GoesNot asked From d d a n NoMemory
 stops-memory begins asked From d a n g lines searching from =
@@ -50,14 +51,14 @@ stops-memory begins asked From d a n g lines searching from =
 
 -- a question that comes next could not be asked
 pub stops-question : (asked : Asked) (From : Place) (question : List Word) (old new : DeskView) (a : AskerView) (n : NotesView) (error : WorkError)
-    → ((g : Setting) (lines : List CertRecord) → From g lines → IsNextQuestion asked lines question) → AskStops a question old new error
+    → ((g : Script) (lines : List CertRecord) → From g lines → IsNextQuestion asked lines question) → AskStops a question old new error
     → GoesNot asked From old new a n error
 stops-question asked From question old new a n error next stops g lines searching from =
     stops-asking g (IsNextQuestion asked) lines question old new error (next g lines from) (stops g lines searching.at)
 
 -- nothing more is written
 pub goes-on : BeginsLaw → (From To : Place) (asked : Asked) (d : DeskView) (a : AskerView) (n : NotesView)
-    → ((g : Setting) (lines : List CertRecord) → IsSearching g asked lines a n → From g lines → To g lines) → Goes asked From To d d a a n n
+    → ((g : Script) (lines : List CertRecord) → IsSearching g asked lines a n → From g lines → To g lines) → Goes asked From To d d a a n n
 goes-on begins From To asked d a n more g lines searching from = record {
   added = [];
   grew = begins d;

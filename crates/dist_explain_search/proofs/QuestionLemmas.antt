@@ -18,8 +18,8 @@ use Rattle.dist_cert.specs.Rising.{AreRising, is_among}
 use Rattle.dist_explain.specs.Answered.{AreAllBut, IsOfRelation, Selects}
 use Rattle.dist_explain.specs.AnsweredLaws.{kept, one-rising}
 use Rattle.dist_explain.specs.declared.asked.Asked.{Asked}
-use Rattle.dist_sweep.specs.Asking.{IsOver}
-use Rattle.dist_sweep.specs.TrueOnesLaws.{range-rises}
+use Rattle.dist_line_write.specs.Asking.{IsOver}
+use Rattle.dist_line_write.specs.TrueOnesLaws.{range-rises}
 use Rattle.dist_explain_search.specs.SearchPrivate.{AreNumbers, FitsAsked, others_of, question_of}
 
 -- ---- lists made from others

@@ -25,13 +25,13 @@ use Rattle.dist_findings.specs.declared.finding.Finding.{Finding}
 use Rattle.dist_findings.specs.declared.finding.Finding.TheVariants as finding
 use Rattle.dist_solver.specs.declared.answers.Answer.{Answer}
 use Rattle.dist_solver.specs.declared.answers.Answer.TheVariants as answers
-use Rattle.dist_sweep.specs.Asking.{AskerView}
-use Rattle.dist_sweep.specs.ScriptLaws.{BeginsLaw, by-exit}
-use Rattle.dist_sweep.specs.TrueOnesLaws.{true-ones}
-use Rattle.dist_sweep.specs.Words.{true_variables}
+use Rattle.dist_line_write.specs.Asking.{AskerView}
+use Rattle.dist_line_write.specs.Script.{AreAsked, Script, Stops}
+use Rattle.dist_line_write.specs.ScriptLaws.{BeginsLaw, by-exit}
+use Rattle.dist_line_write.specs.TrueOnesLaws.{true-ones}
+use Rattle.dist_line_write.specs.Words.{true_variables}
 use Rattle.dist_inquiry.specs.AnswerText.{NoteMore, finding_of, setting_of}
 use Rattle.dist_inquiry.specs.Inquiring.{MaySettle, SettleMore, SettleStops}
-use Rattle.dist_inquiry.specs.Inquiry.{AreAsked, Setting, Stops}
 use Rattle.dist_explain_search.specs.ExplainOrder.{IsNextQuestion}
 use Rattle.dist_explain_search.specs.SearchPrivate.{FitsAsked, Goes, GoesNot, HasJust, IsAnsweredAt, IsSearching, Marks, explain_noting, question_of}
 use Rattle.dist_explain_search.proofs.AskedLemmas.{IsAskedFor, asked-for, just-refuted}
@@ -54,7 +54,7 @@ none-found : findings [] ≡ []
 unfolding findings_behind
 none-found = refl
 
-pub first-next : (asked : Asked) (g : Setting) (lines : List CertRecord) → IsStart g lines → IsNextQuestion asked lines (question_of asked (all_of asked))
+pub first-next : (asked : Asked) (g : Script) (lines : List CertRecord) → IsStart g lines → IsNextQuestion asked lines (question_of asked (all_of asked))
 first-next asked g lines start = record {
   numbers = all_of asked;
   selects = question-selects asked (all_of asked) (all-are asked);
@@ -80,7 +80,7 @@ module _ (asked : Asked) (old new : DeskView) (a b : AskerView) (n m : NotesView
 
   -- an answer that decides it
   first-decides : (answer : Answer) → NoteMore explain_noting old new a b n m (question_of asked (all_of asked)) answer
-      → ((g : Setting) (lines : List CertRecord) → IsSearching g asked lines a n
+      → ((g : Script) (lines : List CertRecord) → IsSearching g asked lines a n
       → IsAskedFor g asked lines (question_of asked (all_of asked)) old new b m answer
       → AreAnswered asked (finding_of (question_of asked (all_of asked)) answer ∷ []))
       → Goes asked IsStart (IsAnsweredAt asked) old new a b n m

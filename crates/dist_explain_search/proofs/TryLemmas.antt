@@ -10,8 +10,8 @@ use Rattle.dist_cert.specs.ListLaws.{any-from, from-any}
 use Rattle.dist_cert.specs.Rising.{is_among}
 use Rattle.dist_outside.specs.DeskView.{DeskView}
 use Rattle.dist_outside.specs.declared.trouble.WorkError.{WorkError}
-use Rattle.dist_sweep.specs.Asking.{AskerView}
-use Rattle.dist_sweep.specs.ScriptLaws.{BeginsLaw}
+use Rattle.dist_line_write.specs.Asking.{AskerView}
+use Rattle.dist_line_write.specs.ScriptLaws.{BeginsLaw}
 use Rattle.dist_explain.specs.NotesPrivate.{NotesView}
 use Rattle.dist_explain_search.specs.SearchPrivate.{Goes, GoesNot, IsSmaller, Marks, others_of}
 use Rattle.dist_explain_search.proofs.GoingLemmas.{goes-on}

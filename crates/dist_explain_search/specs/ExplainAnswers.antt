@@ -15,7 +15,7 @@ use Rattle.dist_explain.specs.declared.explained.Explained.{Explained}
 use Rattle.dist_findings.specs.AnswerFiles.{Inputs}
 use Rattle.dist_inquiry.specs.AnswerText.{setting_of}
 use Rattle.dist_inquiry.specs.Inquiring.{course_of}
-use Rattle.dist_inquiry.specs.Inquiry.{Setting}
+use Rattle.dist_line_write.specs.Script.{Script}
 use Rattle.dist_inquiry.specs.Written.{Course, IsFull, IsWholeText, LeavesCut}
 use Rattle.dist_explain_search.specs.ExplainOrder.{IsNextQuestion}
 
@@ -25,7 +25,7 @@ first_numbers r number limit basis =
     limit ∷ length r.packages ∷ (basis.variables - length r.packages) ∷ (number + 1) ∷ []
 
 -- what such a file is written for
-abbrev pub explain_setting : PackageList → (number limit : ℕ) → Limits → Inputs → Setting
+abbrev pub explain_setting : PackageList → (number limit : ℕ) → Limits → Inputs → Script
 explain_setting r number limit limits basis =
     setting_of (explanation_files r) limits basis (first_numbers r number limit basis)
 
@@ -35,7 +35,7 @@ explain_course r number limit basis =
     course_of (explanation_files r) (λ numbers. IsNextQuestion (asked_by numbers)) (first_numbers r number limit basis)
 
 -- This holds of a file on the package: by the clauses with selectors that it is judged by.
-abbrev pub OfExplain : PackageList → (number limit : ℕ) → Limits → (Setting → Course → Type 0) → Type 0
+abbrev pub OfExplain : PackageList → (number limit : ℕ) → Limits → (Script → Course → Type 0) → Type 0
 OfExplain r number limit limits P = (basis : Inputs) × IsSelectedOf r basis
     × P (explain_setting r number limit limits basis) (explain_course r number limit basis)
 

@@ -16,10 +16,10 @@ use Rattle.dist_explain.specs.declared.asked.Asked.{Asked}
 use Rattle.dist_findings.specs.Findings.{findings}
 use Rattle.dist_findings.specs.declared.finding.Finding.{Finding}
 use Rattle.dist_solver.specs.declared.answers.Answer.TheVariants as answers
-use Rattle.dist_sweep.specs.Asking.{AskerView}
+use Rattle.dist_inquiry.specs.Asking.{IsAt}
+use Rattle.dist_line_write.specs.Asking.{AskerView, Says}
+use Rattle.dist_line_write.specs.Script.{AreAsked, Script, Stops}
 use Rattle.dist_inquiry.specs.AnswerText.{Noting, setting_of}
-use Rattle.dist_inquiry.specs.Asking.{IsAt, Says}
-use Rattle.dist_inquiry.specs.Inquiry.{AreAsked, Setting, Stops}
 use Rattle.dist_explain_search.specs.ExplainOrder.{IsNextQuestion}
 use Rattle.dist_explain.specs.declared.explained.Explained.{Explained}
 use Rattle.dist_findings.specs.AnswerFiles.{Inputs}
@@ -64,14 +64,14 @@ explain_noting = λ numbers found notes. AreNotesOf (asked_by numbers) found not
 -- ---- where the search stands
 
 -- What is kept is what these lines hold, and what they find is noted.
-pub record IsSearching (g : Setting) (asked : Asked) (lines : List CertRecord) (a : AskerView) (notes : NotesView)
+pub record IsSearching (g : Script) (asked : Asked) (lines : List CertRecord) (a : AskerView) (notes : NotesView)
     : Type 0 where
   pub at : IsAt g lines a
   pub noted : AreNotesOf asked (findings lines) notes
 
 -- The question of the core is the last that is refuted, and no model has the core. Of the core, these have their marks.
 -- Each question so far that is on relations of the core alone is on all of it, or on all but one of those with marks.
-pub record IsAtCore (g : Setting) (asked : Asked) (lines : List CertRecord) (core : List ℕ) (later : List Finding)
+pub record IsAtCore (g : Script) (asked : Asked) (lines : List CertRecord) (core : List ℕ) (later : List Finding)
     (marked : List ℕ) : Type 0 where
   pub are_last : AreLast asked (findings lines) core later
   pub refuted : Says g (question_of asked core) (answers.Refuted [])
@@ -81,22 +81,22 @@ pub record IsAtCore (g : Setting) (asked : Asked) (lines : List CertRecord) (cor
       → All (Contains numbers) core ⊎ Any (λ one. AreAllBut core one numbers) marked
 
 -- the core of which these have their marks
-abbrev pub Marks : Asked → (core marked : List ℕ) → Setting → List CertRecord → Type 0
+abbrev pub Marks : Asked → (core marked : List ℕ) → Script → List CertRecord → Type 0
 Marks asked core marked g lines = (later : List Finding) × IsAtCore g asked lines core later marked
 
 -- the core, right behind the line that refutes it
-abbrev pub HasJust : Asked → (core : List ℕ) → Setting → List CertRecord → Type 0
+abbrev pub HasJust : Asked → (core : List ℕ) → Script → List CertRecord → Type 0
 HasJust asked core g lines = (earlier : List CertRecord) × (hints : List ℕ) × (lines ≡ earlier ++ Refuted hints ∷ [])
     × IsAtCore g asked lines core [] []
 
 -- what the lines find has an answer
-abbrev pub IsAnsweredAt : Asked → Setting → List CertRecord → Type 0
+abbrev pub IsAnsweredAt : Asked → Script → List CertRecord → Type 0
 IsAnsweredAt asked g lines = AreAnswered asked (findings lines)
 
 -- ---- what is written behind some lines
 
 -- Lines were written whose questions come in their order, and then this holds.
-pub record IsFurther (g : Setting) (asked : Asked) (To : Setting → List CertRecord → Type 0) (lines : List CertRecord)
+pub record IsFurther (g : Script) (asked : Asked) (To : Script → List CertRecord → Type 0) (lines : List CertRecord)
     (old new : DeskView) (b : AskerView) (after : NotesView) : Type 0 where
   pub added : List CertRecord
   pub grew : FileGrew (lines_text added) old new
@@ -105,15 +105,15 @@ pub record IsFurther (g : Setting) (asked : Asked) (To : Setting → List CertRe
   pub holds : To g (lines ++ added)
 
 -- from where one thing holds, the search goes to where another does
-abbrev pub Goes : Asked → (From To : Setting → List CertRecord → Type 0) → DeskView → DeskView → AskerView → AskerView
+abbrev pub Goes : Asked → (From To : Script → List CertRecord → Type 0) → DeskView → DeskView → AskerView → AskerView
     → NotesView → NotesView → Type 0
-Goes asked From To old new a b notes after = (g : Setting) (lines : List CertRecord)
+Goes asked From To old new a b notes after = (g : Script) (lines : List CertRecord)
     → IsSearching g asked lines a notes → From g lines → IsFurther g asked To lines old new b after
 
 -- or the writing stops
-abbrev pub GoesNot : Asked → (From : Setting → List CertRecord → Type 0) → DeskView → DeskView → AskerView → NotesView
+abbrev pub GoesNot : Asked → (From : Script → List CertRecord → Type 0) → DeskView → DeskView → AskerView → NotesView
     → WorkError → Type 0
-GoesNot asked From old new a notes error = (g : Setting) (lines : List CertRecord)
+GoesNot asked From old new a notes error = (g : Script) (lines : List CertRecord)
     → IsSearching g asked lines a notes → From g lines → Stops g (IsNextQuestion asked) lines old new error
 
 -- ---- the file

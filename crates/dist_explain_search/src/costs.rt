@@ -8,7 +8,7 @@ ghost use Rattle.dist_explain_search.specs.SearchPrivate.{FitsAsked};
 
 use dist_clause::Lit;
 use dist_explain::{Asked, put_in_order};
-use dist_inquiry::Inquirer;
+use dist_line_write::Asker;
 use std::alloc::{AllocError, Global};
 use std::collections::BinaryHeap;
 
@@ -211,7 +211,7 @@ impl Costs {
     }
 
     /// Goes on to the end.
-    fn go(&mut self, inquirer: &Inquirer) -> Result<(), AllocError> {
+    fn go(&mut self, inquirer: &Asker) -> Result<(), AllocError> {
         for _ in 0..self.opens.len() {
             self.weigh_failed(inquirer)?;
             let Some(number) = self.next() else {
@@ -229,7 +229,7 @@ impl Costs {
     }
 
     /// Weighs the relations that are failed.
-    fn weigh_failed(&mut self, inquirer: &Inquirer) -> Result<(), AllocError> {
+    fn weigh_failed(&mut self, inquirer: &Asker) -> Result<(), AllocError> {
         for _ in 0..self.failed.len() {
             if let Some(number) = self.failed.pop() {
                 self.weigh(inquirer, number)?;
@@ -239,7 +239,7 @@ impl Costs {
     }
 
     /// Takes the refutation of a relation that is failed for the shortest, where it is shorter.
-    fn weigh(&mut self, inquirer: &Inquirer, number: u32) -> Result<(), AllocError> {
+    fn weigh(&mut self, inquirer: &Asker, number: u32) -> Result<(), AllocError> {
         let clause = clause_of(inquirer, number);
         let mut is_unserved = is_unserved(clause);
         self.ask(clause)?;
@@ -323,7 +323,7 @@ fn relation_at(steps: &[Step], place: u32) -> u32 {
 }
 
 /// The clause of a number.
-fn clause_of(inquirer: &Inquirer, number: u32) -> &[Lit] {
+fn clause_of(inquirer: &Asker, number: u32) -> &[Lit] {
     match inquirer.clause(number) {
         Some(clause) => clause,
         None => &[],
@@ -339,7 +339,7 @@ fn is_unserved(clause: &[Lit]) -> bool {
 /// None where they don't.
 pub(crate) fn shortest(
     alloc: Global,
-    inquirer: &Inquirer,
+    inquirer: &Asker,
     asked: &Asked,
 ) -> Result<Vec<u32>, AllocError>
     requires { FitsAsked asked.now inquirer.now.log.variables }

@@ -13,7 +13,8 @@ ghost use Rattle.dist_explain_search.specs.SearchPrivate.{FitsAsked, RunsSearch,
 use crate::search::ExplainSearch;
 use dist_clause::ClauseSet;
 use dist_explain::{Asked, Explained, Explaining, Notes, selected_inputs};
-use dist_inquiry::{Inquirer, write_inquiry};
+use dist_inquiry::write_inquiry;
+use dist_line_write::Asker;
 use dist_outside::{Desk, Limits, WorkError};
 use dist_repo::Repository;
 use std::alloc::{AllocError, Global};
@@ -52,7 +53,7 @@ fn new_search<'a>(alloc: Global, repo: &'a Repository, asked: Asked) -> ExplainS
 fn write_search<D: Desk>(
     alloc: Global,
     search: &mut ExplainSearch<'_>,
-    inquirer: &mut Inquirer,
+    inquirer: &mut Asker,
     numbers: &[u32],
     desk: &mut D,
     name: &str,
@@ -97,7 +98,7 @@ fn run_search<D: Desk>(
     requires fits { FitsAsked search.old.asked set.variables }
     ensures { RunsSearch search.old.explaining.repo.now search.old.asked search.old.notes search.new.notes numbers.now (new_asker set limit limits.now) name.now (D.view desk.old) (D.view desk.new) result }
 {
-    let mut inquirer = Inquirer::new(alloc, set, limit, limits)?;
+    let mut inquirer = Asker::new(alloc, set, limit, limits)?;
     let done = write_search(alloc, search, &mut inquirer, numbers, desk, name);
     drop(inquirer);
     done

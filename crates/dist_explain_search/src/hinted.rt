@@ -4,12 +4,12 @@ ghost use Rattle.dist_cert.specs.Rising.{AreRising, is_among};
 
 use dist_check_group::has;
 use dist_explain::put_in_order;
-use dist_inquiry::Inquirer;
+use dist_line_write::Asker;
 use std::alloc::{AllocError, Global};
 
 /// Adds the relations whose selectors, behind the packages, stand in the clause of a number.
 fn add_named(
-    inquirer: &Inquirer,
+    inquirer: &Asker,
     packages: u32,
     number: u32,
     named: &mut Vec<u32>,
@@ -28,7 +28,7 @@ fn add_named(
 /// written is tested first.
 fn named_by(
     alloc: Global,
-    inquirer: &Inquirer,
+    inquirer: &Asker,
     packages: u32,
     hints: &[u32],
 ) -> Result<Vec<u32>, AllocError>
@@ -59,7 +59,7 @@ fn among(alloc: Global, numbers: &[u32], others: &[u32]) -> Result<Vec<u32>, All
 /// Those of some relations that hinted clauses name.
 pub(crate) fn core_of(
     alloc: Global,
-    inquirer: &Inquirer,
+    inquirer: &Asker,
     packages: u32,
     numbers: &[u32],
     hints: &[u32],

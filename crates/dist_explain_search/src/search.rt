@@ -1,16 +1,17 @@
 //! The search.
 ghost use Rattle.std.specs.Prelude.{◌≡◌, ◌≤◌, ◌++◌, ◌∷◌, [], ℕ, List, Contains, IfErr, IfOk, IfSome, MatchOption, OnOk};
 ghost use Rattle.dist_outside.specs.Files.{IsWriting};
-ghost use Rattle.dist_sweep.specs.Script.{Grows};
-ghost use Rattle.dist_inquiry.specs.AnswerText.{NoteMore};
 ghost use Rattle.dist_inquiry.specs.Asking.{AskStops};
+ghost use Rattle.dist_line_write.specs.Script.{Grows};
+ghost use Rattle.dist_inquiry.specs.AnswerText.{NoteMore};
 ghost use Rattle.dist_explain_search.specs.SearchPrivate.{AreNumbers, FitsAsked, Goes, GoesNot, HasJust, IsAnsweredAt, IsSmaller, Marks, explain_noting, others_of, question_of};
 
 use crate::costs::shortest;
 use crate::hinted::core_of;
 use crate::questions::{add, all_but, all_numbers, is_open, joined, question_of};
 use dist_explain::{Asked, Explaining, Notes, marked_relations_are_answered};
-use dist_inquiry::{Inquirer, Inquiring, ask_and_note, refute_and_note};
+use dist_inquiry::{Inquiring, ask_and_note, refute_and_note};
+use dist_line_write::Asker;
 use dist_outside::{Desk, WorkError, file_grows};
 use dist_solver::Answer;
 use std::alloc::Global;
@@ -28,7 +29,7 @@ impl<'a> ExplainSearch<'a> {
     /// Asks for the package with some relations.
     fn ask<D: Desk>(
         &mut self,
-        inquirer: &mut Inquirer,
+        inquirer: &mut Asker,
         desk: &mut D,
         numbers: &[u32],
     ) -> Result<Answer, WorkError>
@@ -61,7 +62,7 @@ impl<'a> ExplainSearch<'a> {
     /// relations that the last line refutes are the answer.
     fn narrow<D: Desk>(
         &mut self,
-        inquirer: &mut Inquirer,
+        inquirer: &mut Asker,
         desk: &mut D,
         numbers: Vec<u32>,
         hints: &[u32],
@@ -101,7 +102,7 @@ impl<'a> ExplainSearch<'a> {
     /// The same of all relations, by the hints of the shortest refutation where one is found, or else by those of the answer.
     fn find_core<D: Desk>(
         &mut self,
-        inquirer: &mut Inquirer,
+        inquirer: &mut Asker,
         desk: &mut D,
         numbers: Vec<u32>,
         hints: &[u32],
@@ -132,7 +133,7 @@ impl<'a> ExplainSearch<'a> {
     /// Asks for all relations of the core but one. None is answered where that is not refuted, and else the new core.
     fn leave_out<D: Desk>(
         &mut self,
-        inquirer: &mut Inquirer,
+        inquirer: &mut Asker,
         desk: &mut D,
         core: &[u32],
         one: u32,
@@ -171,7 +172,7 @@ impl<'a> ExplainSearch<'a> {
     /// left out yet come first: the others, which were needed for more, are needed for fewer too.
     fn settle_core<D: Desk>(
         &mut self,
-        inquirer: &mut Inquirer,
+        inquirer: &mut Asker,
         desk: &mut D,
         first: Vec<u32>,
     ) -> Result<(), WorkError>
@@ -229,7 +230,7 @@ impl<'a> Inquiring for ExplainSearch<'a> {
         b"distfuture-explain 1"
     }
 
-    fn settle<D: Desk>(&mut self, inquirer: &mut Inquirer, desk: &mut D) -> Result<(), WorkError> {
+    fn settle<D: Desk>(&mut self, inquirer: &mut Asker, desk: &mut D) -> Result<(), WorkError> {
         file_grows();
         let all = all_numbers(self.alloc, self.asked.relations)?;
         match self.ask(inquirer, desk, &all)? {

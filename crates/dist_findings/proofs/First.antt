@@ -20,12 +20,14 @@ use Rattle.dist_judge.specs.FileKind.{rules_of}
 use Rattle.dist_judge.specs.HeadingLaws.{IsHeadingFault, heading_refused, heading_unfit, starts_faultless}
 use Rattle.dist_judge.specs.Judging.{HasLargeInputs, OfText, StopsFirst, StopsWith}
 use Rattle.dist_judge.specs.ReadingLaws.{TextAt, from_text, new_reader, starts_read}
-use Rattle.dist_check_state.specs.LinesAt.{IsQuestionOf}
+use Rattle.dist_line_check.specs.Checked.{IsChecked}
+use Rattle.dist_line_check.specs.Checker.{CheckerView}
+use Rattle.dist_line_check.specs.LinesAt.{AreFuturesBy, IsQuestionOf}
+use Rattle.dist_findings.specs.AnswerLines.{answer_lines}
+use Rattle.dist_findings.specs.Unclaimed.{clauses_alone}
+use Rattle.dist_findings.proofs.AnswerNotes.{futures, judges}
 use Rattle.dist_findings.specs.AnswerFiles.{AnswerFile, HasHeading, Inputs, files_of}
-use Rattle.dist_findings.specs.AskingPrivate.{AskingView, assumed}
 use Rattle.dist_findings.specs.BegunPrivate.{BeginFails, IsBegun, IsUnfit}
-use Rattle.dist_findings.specs.CheckedPrivate.{IsChecked}
-use Rattle.dist_findings.specs.FindingLaws.{open_after}
 use Rattle.dist_findings.specs.Findings.{findings_behind}
 use Rattle.dist_findings.specs.declared.finding.Finding.{Finding}
 use Rattle.std.proofs.lemmas.List.{append-nil}
@@ -112,11 +114,11 @@ module _ (file : AnswerFile) (clear : IsClear (files_of file)) (limits : Limits)
       at text more here (Work (TooLarge Literals)) stop = large text more here Literals stop.0 stop.1 stop.2
       at text more here (Work error) stop = absurd stop.2
 
-  pub begins-checked : FirstOfSome reader (Ok line) → GivesFirst reader next (Ok line) → (numbers : List ℕ) (a : AskingView)
-      (Noted : List Finding → Type 0) → IsBegun file limits line numbers a → Noted []
-      → IsChecked file limits told numbers next after a Noted
-  unfolding open_after findings_behind
-  begins-checked some gives numbers a Noted begun noted = record {
+  pub begins-checked : {N : Type 0} (noted : List ℕ → List Finding → N → Type 0) → FirstOfSome reader (Ok line) → GivesFirst reader next (Ok line)
+      → (numbers : List ℕ) (c : CheckerView) (notes : N) → IsBegun file limits line numbers c → noted numbers [] notes
+      → IsChecked (answer_lines file noted) limits told numbers next after c notes
+  unfolding findings_behind
+  begins-checked noted some gives numbers c notes begun noted_is = record {
     basis = begun.basis;
     before = [];
     read = starts_read (files_of file) limits told begun.basis numbers next after begun.is_basis begun.limited
@@ -124,18 +126,25 @@ module _ (file : AnswerFile) (clear : IsClear (files_of file)) (limits : Limits)
         (omega (arith, ap (λ (v : ReaderView). v.lines) gives, ap (λ (v : ReaderView). v.lines) is))
         (omega (arith, ap (λ (v : ReaderView). v.given) gives, ap (λ (v : ReaderView). v.given) is, ap (λ (l : List ℕ). length l) begun.heading.text))
         (ap (λ (v : ReaderView). v.ended) gives ∙ ap (λ (v : ReaderView). v.ended) is) (by told same);
-    log_of = record {
-      clauses = begun.clauses ∙ sym (append-nil begun.basis.clauses);
-      inputs_are = begun.counted ∙ ap (λ (cs : List (List Literal)). length cs) begun.clauses;
-      variables = begun.variables;
+    reached = record {
+      kept = record {
+        limit_is = begun.limit;
+        log_of = record {
+          clauses = begun.clauses ∙ sym (append-nil begun.basis.clauses);
+          inputs_are = begun.counted ∙ ap (λ (cs : List (List Literal)). length cs) begun.clauses;
+          variables = begun.variables;
+        };
+        question_of = subst (IsQuestionOf begun.basis.clauses []) (sym begun.question) none-first;
+        future_is = subst (AreFuturesBy (clauses_alone begun.basis.variables begun.basis.clauses)) (sym begun.future)
+            (futures begun.basis.variables begun.basis.clauses);
+        judges = judges begun.basis.variables begun.basis.clauses;
+        today = λ strong members. tt;
+      };
+      line_limit = begun.line_limit;
+      line_literal_limit = begun.line_literal_limit;
+      within = begun.within;
+      noted = noted_is;
     };
-    question_of = subst (IsQuestionOf begun.basis.clauses []) (sym begun.question) none-first;
-    open_is = sym (ap assumed begun.question);
-    limit_is = begun.limit;
-    line_limit = begun.line_limit;
-    line_literal_limit = begun.line_literal_limit;
-    within = begun.within;
-    noted = noted;
   }
     where
       at : (text more : List ℕ) → IsLineNext reader text more line → AreRight (rules_of (files_of file) begun.basis) limits text numbers [] more

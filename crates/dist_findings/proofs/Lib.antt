@@ -1,5 +1,3 @@
-mod Verdicts
-mod Steps
-mod Lines
+mod AnswerNotes
 mod Begun
 mod First

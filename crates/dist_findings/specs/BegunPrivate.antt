@@ -7,11 +7,12 @@ use Rattle.dist_cert.specs.declared.faults.CertCause.TheVariants.{BadHeader}
 use Rattle.dist_cert.specs.declared.faults.ReadCertError.{ReadCertError}
 use Rattle.dist_cert.specs.declared.faults.ReadCertError.TheVariants.{Bad, Work}
 use Rattle.dist_findings.specs.AnswerFiles.{AnswerFile, Inputs, HasHeading, HasNoHeading, limit_of}
-use Rattle.dist_findings.specs.AskingPrivate.{AskingView}
+use Rattle.dist_line_check.specs.Checker.{CheckerView}
+use Rattle.dist_findings.specs.AnswerLines.{any_future}
 use Rattle.dist_findings.specs.Start.{AreWrongNumbers, IsLargeInput}
 
 -- what is kept behind a first line with the right numbers
-pub record IsBegun (file : AnswerFile) (limits : Limits) (line numbers : List ℕ) (a : AskingView) : Type 0 where
+pub record IsBegun (file : AnswerFile) (limits : Limits) (line numbers : List ℕ) (a : CheckerView) : Type 0 where
   pub heading : HasHeading file line numbers
   pub basis : Inputs
   pub is_basis : file.IsBasisOf numbers basis
@@ -20,6 +21,7 @@ pub record IsBegun (file : AnswerFile) (limits : Limits) (line numbers : List �
   pub variables : a.log.variables ≡ basis.variables
   pub clauses : a.log.clauses ≡ basis.clauses
   pub counted : a.log.inputs ≡ length a.log.clauses
+  pub future : a.future ≡ any_future
   pub question : a.question ≡ None
   pub limit : a.limit ≡ limit_of numbers
   pub line_limit : a.log.line_limit ≡ limits.lines

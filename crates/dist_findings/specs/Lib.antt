@@ -4,9 +4,8 @@ pub mod AnswerFiles
 pub mod Start
 pub mod Answers
 pub mod FileAnswers
-pub mod AskingPrivate
+pub mod AnswerLines
 pub mod BegunPrivate
-pub mod CheckedPrivate
 pub mod FindingLaws
 pub mod FilesClearLaws
 pub mod SoundLaws

@@ -19,9 +19,9 @@ use Rattle.dist_cert.specs.GroupLaws.{closed-here, opened, still-open}
 use Rattle.dist_cert.specs.Groups.{IsOpen, clause_of, derived, is_claim, leaves_open, numbered}
 use Rattle.dist_cert.specs.LineRules.{HasRecordFault}
 use Rattle.dist_cert.specs.Rising.{is_among}
-use Rattle.dist_check_state.specs.LinesAt.{AreRight}
-use Rattle.dist_check_state.specs.ModelLaws.{IsSoundRule, refuted-true}
-use Rattle.dist_check_state.specs.ToldLaws.{model-told, most-told, stable}
+use Rattle.dist_line_check.specs.LinesAt.{AreRight}
+use Rattle.dist_line_check.specs.ModelLaws.{IsSoundRule, refuted-true}
+use Rattle.dist_line_check.specs.ToldLaws.{model-told, most-told, stable}
 use Rattle.dist_findings.specs.Findings.{findings, findings_behind, found_at, open_behind}
 use Rattle.dist_findings.specs.Unclaimed.{HasUnclaimedFault, clauses_alone, limit_alone}
 use Rattle.dist_findings.specs.declared.finding.Finding.{Finding}

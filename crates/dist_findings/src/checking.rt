@@ -1,5 +1,5 @@
 //! One pass over the lines of a file.
-ghost use Rattle.std.specs.Prelude.{◌≡◌, ◌≤◌, ◌++◌, [], All, List, None, OnOk, Option, ℕ, IfErr, IfOk};
+ghost use Rattle.std.specs.Prelude.{◌≤◌, [], List, None, Option, ℕ, IfErr, IfOk};
 ghost use Rattle.dist_outside.specs.DeskView.{OnlyReads};
 ghost use Rattle.dist_outside.specs.Files.{IsReading};
 ghost use Rattle.dist_outside.specs.Reading.{bytes_left};
@@ -7,23 +7,20 @@ ghost use Rattle.dist_cert.specs.Reading.{text_left};
 ghost use Rattle.dist_judge.specs.Causes.{TextCause};
 ghost use Rattle.dist_judge.specs.Judging.{OfText};
 ghost use Rattle.dist_base.specs.declared.TheConstants.{MAX_LINES, MAX_LINE_LITERALS};
+ghost use Rattle.dist_line_check.specs.Checked.{IsChecked};
+ghost use Rattle.dist_findings.specs.AnswerLines.{answer_lines};
 ghost use Rattle.dist_findings.specs.Answers.{TextAnswers};
 ghost use Rattle.dist_findings.specs.BegunPrivate.{BeginFails, IsBegun};
-ghost use Rattle.dist_findings.specs.AskingPrivate.{as_list};
-ghost use Rattle.dist_findings.specs.CheckedPrivate.{DecidesEnd, IsChecked};
-ghost use Rattle.dist_findings.specs.Findings.{IsFormed};
-ghost use Rattle.dist_findings.specs.declared.finding.Finding.{Finding};
 
 use crate::answering::Answering;
-use crate::asking::Asking;
-use crate::finding::Finding;
+use crate::files::{Files, any_future};
 use crate::heading::{heading_numbers, limit_of};
-use dist_cert::{CertRecord, ReadCertError, Reader, forms_are_clear};
-use dist_check_state::Tools;
+use dist_cert::{ReadCertError, Reader, forms_are_clear};
 use dist_derive::Log;
 use dist_judge::bad_heading;
+use dist_line_check::{Checker, Kept, check_lines};
 use dist_outside::{Desk, Limits};
-use std::alloc::{AllocError, Global};
+use std::alloc::Global;
 
 /// What was read of an accepted file.
 #[derive(Drop)]
@@ -36,8 +33,7 @@ pub(crate) struct Checked<N> {
 #[derive(Drop)]
 struct Begun<N> {
     numbers: Vec<u32>,
-    asking: Asking,
-    notes: N,
+    kept: Kept<N>,
 }
 
 /// What is kept behind a first line.
@@ -50,8 +46,8 @@ fn begin<A: Answering>(
     requires ready { A.ready answering.now limits.now }
     requires lines { limits.now.lines ≤ MAX_LINES }
     requires line_literals { limits.now.line_literals ≤ MAX_LINE_LITERALS }
-    ensures ok { IfOk result (λ b. IsBegun (A.file answering.now) limits.now line.now b.numbers.items b.asking) }
-    ensures noted { IfOk result (λ b. A.noted answering.now b.numbers.items [] b.notes) }
+    ensures ok { IfOk result (λ b. IsBegun (A.file answering.now) limits.now line.now b.numbers.items b.kept.checker) }
+    ensures noted { IfOk result (λ b. A.noted answering.now b.numbers.items [] b.kept.notes) }
     ensures err { IfErr result (BeginFails (A.file answering.now) limits.now line.now) }
 {
     let Some(numbers) = heading_numbers(alloc, answering, line)? else {
@@ -62,75 +58,11 @@ fn begin<A: Answering>(
     };
     let notes = answering.begin(alloc, &numbers)?;
     let log = Log::covered(alloc, inputs, limits.lines, limits.line_literals)?;
-    let asking = Asking::new(limit_of(&numbers), log);
+    let checker = Checker::new(alloc, limit_of(&numbers), any_future(), log)?;
     Ok(Begun {
         numbers,
-        asking,
-        notes,
+        kept: Kept { checker, notes },
     })
-}
-
-/// Whether a line is the end, and the answer is decided before it.
-fn is_end_decided<A: Answering>(answering: &A, notes: &A::Notes, step: &CertRecord) -> bool
-    ensures { (numbers : List ℕ) (found : List Finding) → A.noted answering.now numbers found notes.now
-        → DecidesEnd (A.file answering.now) numbers found step.now result }
-{
-    match step {
-        CertRecord::End => answering.is_decided(notes),
-        _ => false,
-    }
-}
-
-/// Notes what a line found.
-fn note_found<A: Answering>(
-    answering: &A,
-    notes: &mut A::Notes,
-    found: Option<Finding>,
-) -> Result<(), AllocError>
-    requires { All IsFormed (as_list found) }
-    ensures { (numbers : List ℕ) (before : List Finding) → A.noted answering.now numbers before notes.old
-        → OnOk result (A.noted answering.now numbers (before ++ as_list found) notes.new) }
-{
-    match found {
-        Some(finding) => answering.note(notes, finding),
-        None => Ok(()),
-    }
-}
-
-/// Takes all lines behind the first one. What is told of a text is told of each that these lines may be of.
-fn take_lines<D: Desk, A: Answering>(
-    desk: &mut D,
-    answering: &A,
-    limits: &Limits,
-    numbers: &[u32],
-    reader: &mut Reader,
-    asking: &mut Asking,
-    tools: &mut Tools,
-    notes: &mut A::Notes,
-) -> Result<(), ReadCertError>
-    requires reading { IsReading (D.view desk.old).mode }
-    requires tools { tools.old ≡ asking.old.log.variables }
-    requires start { IsChecked (A.file answering.now) limits.now None numbers.now reader.old None asking.old (λ found. A.noted answering.now numbers.now found notes.old) }
-    ensures text { (told : Option (List ℕ)) → IsChecked (A.file answering.now) limits.now told numbers.now reader.old (text_left reader.old (D.view desk.old)) asking.old
-        (λ found. A.noted answering.now numbers.now found notes.old)
-        → OfText told (λ text. TextAnswers (A.file answering.now) limits.now (λ _. numbers.now) (λ _ found. A.noted answering.now numbers.now found notes.new) text result) }
-    ensures some { (text : List ℕ) × TextAnswers (A.file answering.now) limits.now (λ _. numbers.now) (λ _ found. A.noted answering.now numbers.now found notes.new) text result }
-    ensures cause { IfErr result (TextCause (D.view desk.old) (D.view desk.new)) }
-    ensures only_reads { OnlyReads (D.view desk.old) (D.view desk.new) }
-{
-    forms_are_clear();
-    // What this call tells is that it is one line.
-    let _front = answering.front();
-    'lines: loop {
-        let _within = reader.lines();
-        let Some(step) = reader.next(desk)? else {
-            return Ok(());
-        };
-        let line = reader.lines();
-        let decided = is_end_decided(answering, notes, &step);
-        let found = asking.take_line(tools, line, step, decided)?;
-        note_found(answering, notes, found)?;
-    }
 }
 
 /// What the text behind its first line answers, with what is kept behind that one.
@@ -143,39 +75,19 @@ fn answers_behind<D: Desk, A: Answering>(
     begun: Begun<A::Notes>,
 ) -> Result<Checked<A::Notes>, ReadCertError>
     requires reading { IsReading (D.view desk.old).mode }
-    requires start { IsChecked (A.file answering.now) limits.now None begun.numbers.items reader.old None begun.asking (λ found. A.noted answering.now begun.numbers.items found begun.notes) }
-    ensures text { (told : Option (List ℕ)) → IsChecked (A.file answering.now) limits.now told begun.numbers.items reader.old (text_left reader.old (D.view desk.old)) begun.asking
-        (λ found. A.noted answering.now begun.numbers.items found begun.notes)
+    requires start { IsChecked (answer_lines (A.file answering.now) (A.noted answering.now)) limits.now None begun.numbers.items reader.old None begun.kept.checker begun.kept.notes }
+    ensures text { (told : Option (List ℕ)) → IsChecked (answer_lines (A.file answering.now) (A.noted answering.now)) limits.now told begun.numbers.items reader.old (text_left reader.old (D.view desk.old)) begun.kept.checker
+        begun.kept.notes
         → OfText told (λ text. TextAnswers (A.file answering.now) limits.now (λ c. c.numbers.items) (λ c found. A.noted answering.now c.numbers.items found c.notes) text result) }
     ensures some { (text : List ℕ) × TextAnswers (A.file answering.now) limits.now (λ c. c.numbers.items) (λ c found. A.noted answering.now c.numbers.items found c.notes) text result }
     ensures cause { IfErr result (TextCause (D.view desk.old) (D.view desk.new)) }
     ensures only_reads { OnlyReads (D.view desk.old) (D.view desk.new) }
 {
-    let Begun {
-        numbers,
-        mut asking,
-        mut notes,
-    } = begun;
-    let mut tools = Tools::new(alloc, asking.variables())?;
-    match take_lines(
-        desk,
-        answering,
-        limits,
-        &numbers,
-        reader,
-        &mut asking,
-        &mut tools,
-        &mut notes,
-    ) {
-        Ok(()) => {
-            drop(tools);
-            drop(asking);
-            Ok(Checked { numbers, notes })
-        }
+    let Begun { numbers, kept } = begun;
+    let files = Files { answering };
+    match check_lines(alloc, desk, &files, reader, kept) {
+        Ok(notes) => Ok(Checked { numbers, notes }),
         Err(error) => {
-            drop(tools);
-            drop(asking);
-            drop(notes);
             drop(numbers);
             Err(error)
         }

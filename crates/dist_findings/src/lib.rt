@@ -7,9 +7,9 @@
 #![tactic(auto)]
 
 mod answering;
-mod asking;
 mod checking;
 mod file;
+mod files;
 mod finding;
 mod heading;
 

@@ -11,8 +11,8 @@ use Rattle.dist_cert.specs.Form.{Word}
 use Rattle.dist_findings.specs.FindingLaws.{findings_push, open_after}
 use Rattle.dist_findings.specs.Findings.{findings, findings_behind, found_at, open_behind}
 use Rattle.dist_findings.specs.declared.finding.Finding.{Finding}
-use Rattle.dist_sweep.specs.Asking.{is_derived, question_lines}
-use Rattle.dist_sweep.specs.Words.{closing_line}
+use Rattle.dist_line_write.specs.Asking.{is_derived, question_lines}
+use Rattle.dist_line_write.specs.Words.{closing_line}
 use Rattle.dist_inquiry.specs.AnswerText.{finding_of}
 
 none-at-question : (left : Option (List Word)) (question : List Word) → found_at left (lines.Question question) ≡ []

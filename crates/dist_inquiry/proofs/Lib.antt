@@ -1,13 +1,3 @@
-mod Lists
-mod Opened
-mod Lines
-mod OneLine
-mod DerivedLines
-mod Answered
-mod Closing
-mod Asked
-mod Refuted
-mod EdgeLines
 mod Found
 mod WholeFile
 mod Noted

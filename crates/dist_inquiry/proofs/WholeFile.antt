@@ -1,5 +1,5 @@
 -- Lines that were written to their end are a file of the kind.
-use Rattle.std.proofs.Common.{◌≡◌, ◌≢◌, ⊎_elim, ℕ, ◌<◌, Bool, false, ◌||◌, List, []}
+use Rattle.std.proofs.Common.{◌≡◌, ◌≢◌, ⊎_elim, ℕ, ◌<◌, ◌≤◌, Bool, false, ◌||◌, List, []}
 use Rattle.std.proofs.Common.{◌∷◌, ◌++◌, length, refl, ap, sym, subst, ◌∙◌, append-nil, arith}
 use Rattle.std.proofs.Common.{length-append, get_or}
 use Rattle.std.specs.List.{All, Contains, list_any}
@@ -27,13 +27,15 @@ use Rattle.dist_findings.specs.AnswerFiles.{AnswerFile, Inputs, files_of}
 use Rattle.dist_findings.specs.Answers.{IsAnswered}
 use Rattle.dist_findings.specs.FilesClearLaws.{clear_files}
 use Rattle.dist_findings.specs.Findings.{findings}
-use Rattle.dist_findings.specs.Unclaimed.{EndsEarly, HasUnclaimedFault}
+use Rattle.dist_findings.specs.Unclaimed.{EndsEarly, HasUnclaimedFault, clauses_alone, limit_alone}
 use Rattle.dist_findings.specs.declared.finding.Finding.{Finding}
-use Rattle.dist_sweep.specs.LineLaws.{keeps-same, none-in}
+use Rattle.dist_line_write.specs.LineLaws.{keeps-same, none-in}
+use Rattle.dist_line_write.specs.Script.{AllNext, IsLine, Script}
+use Rattle.dist_line_write.specs.ScriptLaws.{next-at}
+use Rattle.dist_line_write.specs.TrueOnesLaws.{true-ones}
+use Rattle.dist_subject.specs.Installed.{AreTrueOf, ModelsStand}
+use Rattle.dist_inquiry.specs.Written.{AreWritten}
 use Rattle.dist_inquiry.specs.AnswerText.{IsRightBasis, setting_of, whole_text}
-use Rattle.dist_inquiry.specs.Edges.{IsEnded}
-use Rattle.dist_inquiry.specs.Inquiry.{AllNext, IsLine, Setting, header_in, matter_in}
-use Rattle.dist_inquiry.proofs.DerivedLines.{next-at}
 use Rattle.dist_inquiry.proofs.Found.{end-finds}
 
 -- ---- files of any kind
@@ -100,10 +102,10 @@ end-sound kind basis h limits steps some ended cause f = nothing-begins f.0 f.1 
 -- ---- files of one question
 
 -- a record without a fault, that is no claim and ends nothing early, has none here
-unclaimed : (g : Setting) (Decided : List CertRecord → Type 0) (before : List CertRecord) (step : CertRecord) → is_claim step ≡ false
+unclaimed : (g : Script) (Decided : List CertRecord → Type 0) (before : List CertRecord) (step : CertRecord) → is_claim step ≡ false
     → ¬ EndsEarly Decided before step
-    → ((cause : CertCause) → cause ≢ causes.Incomplete → ¬ HasRecordFault (matter_in g) (header_in g) before step cause)
-    → (cause : CertCause) → ¬ HasUnclaimedFault Decided g.inputs.variables g.inputs.clauses g.limit before step cause
+    → ((cause : CertCause) → cause ≢ causes.Incomplete → ¬ HasRecordFault (clauses_alone g.variables g.inputs) (limit_alone g.limit) before step cause)
+    → (cause : CertCause) → ¬ HasUnclaimedFault Decided g.variables g.inputs g.limit before step cause
 unclaimed g Decided before step none early faultless causes.Incomplete f = early f
 unclaimed g Decided before step none early faultless causes.WrongClaim f = true≢false (sym f ∙ none)
 unclaimed g Decided before step none early faultless causes.LineTooLong f = f.1
@@ -119,22 +121,57 @@ unclaimed g Decided before step none early faultless causes.NotAnInstallation f 
 unclaimed g Decided before step none early faultless causes.LimitNotReached f = faultless causes.LimitNotReached (λ e. cc) f.1
 unclaimed g Decided before step none early faultless causes.NotNew f = faultless causes.NotNew (λ e. cc) f.1
 
-line-unclaimed : (g : Setting) (Decided : List CertRecord → Type 0) (before : List CertRecord) (step : CertRecord) → IsLine g before step
-    → (cause : CertCause) → ¬ HasUnclaimedFault Decided g.inputs.variables g.inputs.clauses g.limit before step cause
-line-unclaimed g Decided before (lines.Question question) line =
-    unclaimed g Decided before (lines.Question question) refl (λ f. f) (λ cause other. line.faultless cause)
-line-unclaimed g Decided before (lines.Derived literals hints) line =
-    unclaimed g Decided before (lines.Derived literals hints) refl (λ f. f) (λ cause other. line.faultless cause)
-line-unclaimed g Decided before (lines.Refuted hints) line =
-    unclaimed g Decided before (lines.Refuted hints) refl (λ f. f) (λ cause other. line.faultless cause)
-line-unclaimed g Decided before (lines.Installation variables) line =
-    unclaimed g Decided before (lines.Installation variables) refl (λ f. f) (λ cause other. line.faultless cause)
-line-unclaimed g Decided before lines.Undecided line =
-    unclaimed g Decided before lines.Undecided refl (λ f. f) (λ cause other. line.faultless cause)
-line-unclaimed g Decided before step line = absurd line.next
+-- a line of a question has no fault by the clauses alone
+line-alone : (g : Script) (before : List CertRecord) (step : CertRecord) → ModelsStand (clauses_alone g.variables g.inputs) → IsLine g before step
+    → (cause : CertCause) → ¬ HasRecordFault (clauses_alone g.variables g.inputs) (limit_alone g.limit) before step cause
+line-alone g before (lines.Question question) stand line = none
+  where
+    none : (cause : CertCause) → ¬ HasRecordFault (clauses_alone g.variables g.inputs) (limit_alone g.limit) before (lines.Question question) cause
+    none causes.NotAFuture f = f
+    none cause f = line.faultless cause f
+line-alone g before (lines.Derived literals hints) stand line = none
+  where
+    none : (cause : CertCause) → ¬ HasRecordFault (clauses_alone g.variables g.inputs) (limit_alone g.limit) before (lines.Derived literals hints) cause
+    none causes.NotAFuture f = f
+    none cause f = line.faultless cause f
+line-alone g before (lines.Refuted hints) stand line = none
+  where
+    none : (cause : CertCause) → ¬ HasRecordFault (clauses_alone g.variables g.inputs) (limit_alone g.limit) before (lines.Refuted hints) cause
+    none causes.NotAFuture f = f
+    none cause f = line.faultless cause f
+line-alone g before (lines.Installation variables) stand line = none
+  where
+    trues : AreTrueOf line.next.1.values variables
+    trues = subst (AreTrueOf line.next.1.values) (sym line.next.1.are) (true-ones line.next.1.values)
 
-end-faultless : (g : Setting) (before : List CertRecord) (cause : CertCause) → cause ≢ causes.Incomplete
-    → ¬ HasRecordFault (matter_in g) (header_in g) before lines.End cause
+    none : (cause : CertCause) → ¬ HasRecordFault (clauses_alone g.variables g.inputs) (limit_alone g.limit) before (lines.Installation variables) cause
+    none causes.NotAFuture f = f tt
+    none causes.NotAnInstallation f = f (stand line.next.1.values variables line.next.1.size line.next.1.model trues).1
+    none cause f = line.faultless cause f
+line-alone g before lines.Undecided stand line = none
+  where
+    none : (cause : CertCause) → ¬ HasRecordFault (clauses_alone g.variables g.inputs) (limit_alone g.limit) before lines.Undecided cause
+    none causes.NotAFuture f = f
+    none cause f = line.faultless cause f
+line-alone g before step stand line = absurd line.next
+
+line-unclaimed : (g : Script) (Decided : List CertRecord → Type 0) (before : List CertRecord) (step : CertRecord)
+    → ModelsStand (clauses_alone g.variables g.inputs) → IsLine g before step
+    → (cause : CertCause) → ¬ HasUnclaimedFault Decided g.variables g.inputs g.limit before step cause
+line-unclaimed g Decided before (lines.Question question) stand line =
+    unclaimed g Decided before (lines.Question question) refl (λ f. f) (λ cause other. line-alone g before (lines.Question question) stand line cause)
+line-unclaimed g Decided before (lines.Derived literals hints) stand line =
+    unclaimed g Decided before (lines.Derived literals hints) refl (λ f. f) (λ cause other. line-alone g before (lines.Derived literals hints) stand line cause)
+line-unclaimed g Decided before (lines.Refuted hints) stand line =
+    unclaimed g Decided before (lines.Refuted hints) refl (λ f. f) (λ cause other. line-alone g before (lines.Refuted hints) stand line cause)
+line-unclaimed g Decided before (lines.Installation variables) stand line =
+    unclaimed g Decided before (lines.Installation variables) refl (λ f. f) (λ cause other. line-alone g before (lines.Installation variables) stand line cause)
+line-unclaimed g Decided before lines.Undecided stand line =
+    unclaimed g Decided before lines.Undecided refl (λ f. f) (λ cause other. line-alone g before lines.Undecided stand line cause)
+line-unclaimed g Decided before step stand line = absurd line.next
+
+end-faultless : (g : Script) (before : List CertRecord) (cause : CertCause) → cause ≢ causes.Incomplete
+    → ¬ HasRecordFault (clauses_alone g.variables g.inputs) (limit_alone g.limit) before lines.End cause
 end-faultless g before causes.OutOfRange other f = none-in _ f
 end-faultless g before causes.OutOfOrder other f = none-in _ f
 end-faultless g before causes.UnknownLine other f = none-in _ f
@@ -142,13 +179,13 @@ end-faultless g before causes.WrongClaim other f = false≢true f.0
 end-faultless g before causes.Incomplete other f = other refl
 end-faultless g before cause other f = f
 
-end-unclaimed : (g : Setting) (Decided : List CertRecord → Type 0) (before : List CertRecord) → Decided before
-    → (cause : CertCause) → ¬ HasUnclaimedFault Decided g.inputs.variables g.inputs.clauses g.limit before lines.End cause
+end-unclaimed : (g : Script) (Decided : List CertRecord → Type 0) (before : List CertRecord) → Decided before
+    → (cause : CertCause) → ¬ HasUnclaimedFault Decided g.variables g.inputs g.limit before lines.End cause
 end-unclaimed g Decided before decided =
     unclaimed g Decided before lines.End refl (λ early. early decided) (end-faultless g before)
 
 -- a line that may come next is no end
-not-end : (g : Setting) (before : List CertRecord) (step : CertRecord) → IsLine g before step → is_end step ≡ false
+not-end : (g : Script) (before : List CertRecord) (step : CertRecord) → IsLine g before step → is_end step ≡ false
 not-end g before (lines.Question question) line = refl
 not-end g before (lines.Derived literals hints) line = refl
 not-end g before (lines.Refuted hints) line = refl
@@ -156,7 +193,7 @@ not-end g before (lines.Installation variables) line = refl
 not-end g before lines.Undecided line = refl
 not-end g before step line = absurd line.next
 
-none-ends : (g : Setting) (before steps : List CertRecord) → AllNext g before steps → list_any is_end steps ≡ false
+none-ends : (g : Script) (before steps : List CertRecord) → AllNext g before steps → list_any is_end steps ≡ false
 none-ends g before [] all = refl
 none-ends g before (step ∷ steps) all =
     ap (λ (b : Bool). b || list_any is_end steps) (not-end g before step all.0) ∙ none-ends g (before ++ step ∷ []) steps all.1
@@ -176,33 +213,40 @@ with-end P before each last earlier step others is = ⊎_elim
     (λ inside. each earlier step inside.0 inside.1)
     (split_push before earlier others step lines.End is)
 
+-- The lines are written, and the end behind them.
+pub record IsEnded (g : Script) (steps : List CertRecord) : Type 0 where
+  pub written : AreWritten g steps
+  pub short : IsShortLine g.limits lines.End
+  pub bytes : length (file_text g.first (steps ++ lines.End ∷ [])) ≤ g.limits.certificate
+
 -- The lines with the end behind them are a file of the kind, and it holds what its findings tell.
 pub ended-answered : FormsAreClear → (file : AnswerFile) → IsOneLine file.front → (limits : Limits) (numbers : List ℕ) (basis : Inputs)
-    → IsRightBasis file limits numbers basis → (before : List CertRecord) → IsEnded (setting_of file limits basis numbers) before
+    → IsRightBasis file limits numbers basis → ModelsStand (clauses_alone basis.variables basis.clauses)
+    → (before : List CertRecord) → IsEnded (setting_of file limits basis numbers) before
     → file.IsDecided numbers (findings before) → (Holds : List Finding → Type 0) → Holds (findings before)
     → IsAnswered file limits (whole_text (setting_of file limits basis numbers) before) numbers Holds
-ended-answered clear file one limits numbers basis right before is decided Holds holds =
-    let g : Setting = setting_of file limits basis numbers in
+ended-answered clear file one limits numbers basis right stand before is decided Holds holds =
+    let g : Script = setting_of file limits basis numbers in
     let kind : FileKind = files_of file in
     let Decided : List CertRecord → Type 0 = λ lines. file.IsDecided numbers (findings lines) in
     let steps : List CertRecord = before ++ lines.End ∷ [] in
     let none : list_any is_end before ≡ false = none-ends g [] before is.written.next in
-    let kept = keeps-same limits before lines.End refl is.written.kept in
+    let kept = keeps-same limits before lines.End refl is.written.within.kept in
     record {
       basis = basis;
       is_basis = right.is_basis;
       steps = steps;
       accepted = record {
         faultless = right-lines kind (clear_files clear file one) basis numbers limits steps
-            (record { form = right.heading; fits = right.fits; short = is.written.first_short })
+            (record { form = right.heading; fits = right.fits; short = is.written.within.first_short })
             (with-end (λ earlier step. IsSound kind basis numbers limits earlier step) before
             (λ earlier step others at.
             let line = next-at g [] before earlier step others at is.written.next in
             record {
               form = line.form;
-              short = all-at (IsShortLine limits) before earlier step others at is.written.short;
+              short = all-at (IsShortLine limits) before earlier step others at is.written.within.short;
               not_ended = line.not_ended;
-              faultless = line-unclaimed g Decided earlier step line;
+              faultless = line-unclaimed g Decided earlier step stand line;
             })
             (record {
               form = record { text = refl; rules = tt; numbers = All-nil (λ w. IsSmall w.0) };

@@ -15,13 +15,13 @@ use Rattle.dist_cert.specs.Writing.{ended}
 use Rattle.dist_findings.specs.AnswerFiles.{AnswerFile}
 use Rattle.dist_findings.specs.Answers.{IsAnswered}
 use Rattle.dist_findings.specs.declared.finding.Finding.{Finding}
-use Rattle.dist_sweep.specs.Asking.{AskerView}
-use Rattle.dist_sweep.specs.ScriptLaws.{rose-later}
+use Rattle.dist_line_write.specs.Asking.{AskerView}
+use Rattle.dist_line_write.specs.Script.{Asks, Script}
+use Rattle.dist_line_write.specs.ScriptLaws.{rose-later}
 use Rattle.dist_inquiry.specs.AnswerText.{setting_of}
 use Rattle.dist_inquiry.specs.Inquiring.{InquiryAnswers, InquiryMore, InquiryStops, course_of}
-use Rattle.dist_inquiry.specs.Inquiry.{Asks, Setting}
 use Rattle.dist_inquiry.specs.Written.{Course, IsCutText, IsStopped, IsWholeText, LeavesCut, WrittenAnswers, text_so_far}
-use Rattle.dist_inquiry.proofs.OneLine.{text-push}
+use Rattle.dist_line_write.specs.ScriptLaws.{text-push}
 
 -- the laws of dist_outside
 abbrev pub MoreLaw : Type 0
@@ -42,7 +42,7 @@ holds : (name text : List ℕ) (old mid late new : DeskView) → IsDone name old
 holds name text old mid late new done grew = done.closing name text (Writing (where_told old.files name)) old late new
     (done.more name [] text old mid late done.created grew) done.closed
 
-leaves : (g : Setting) (course : Course) (name text : List ℕ) (old new : DeskView) → Holds name text Idle old new
+leaves : (g : Script) (course : Course) (name text : List ℕ) (old new : DeskView) → Holds name text Idle old new
     → IsCutText g course text → LeavesCut g course name old new
 leaves g course name text old new there cut = record {
   files = inr (text, cut, there.files);
@@ -62,12 +62,12 @@ rose-within name text old mid late new done grew rose =
 
 -- ---- a refusal while lines are written
 
-cut-of : (g : Setting) (course : Course) (mid late : DeskView) (error : WorkError) → (stops : IsStopped g course mid late error)
+cut-of : (g : Script) (course : Course) (mid late : DeskView) (error : WorkError) → (stops : IsStopped g course mid late error)
     → IsCutText g course (text_so_far g stops.before ++ stops.cut)
 cut-of g course mid late error stops =
     record { before = stops.before; written = stops.written; cut = stops.cut; is = refl; cut_line = stops.cut_line }
 
-stopped : {X : Type 0} (g : Setting) (course : Course) (IsRight : X → List ℕ → Type 0) (name : List ℕ) (old mid late new : DeskView)
+stopped : {X : Type 0} (g : Script) (course : Course) (IsRight : X → List ℕ → Type 0) (name : List ℕ) (old mid late new : DeskView)
     (error : WorkError) → IsDone name old mid late new → IsStopped g course mid late error
     → WrittenAnswers g course IsRight name old new (Err error)
 stopped g course IsRight name old mid late new WriteFault done stops =
@@ -102,7 +102,7 @@ all-of : (bytes : List ℕ) → IsFrontOf bytes bytes
 all-of bytes = record { count = length bytes; within = omega arith; is = sym (take_all (length bytes) bytes (omega arith)) }
 
 -- a whole text is what may be written so far, and all of the end
-whole-cut : (g : Setting) (course : Course) (text : List ℕ) → IsWholeText g course text → IsCutText g course text
+whole-cut : (g : Script) (course : Course) (text : List ℕ) → IsWholeText g course text → IsCutText g course text
 whole-cut g course text whole = record {
   before = Some whole.lines;
   written = (whole.written, whole.asked);
@@ -120,7 +120,7 @@ file-whole file Keeps asks Told numbers a name old mid late new done more limits
     let x = more limits basis may in (x.text, holds name x.text old mid late new done x.grew, x.whole, x.answered)
 
 -- a fault or want of memory at the end of the writing
-caused : {X : Type 0} (g : Setting) (course : Course) (IsRight : X → List ℕ → Type 0) (name : List ℕ) (old late new : DeskView)
+caused : {X : Type 0} (g : Script) (course : Course) (IsRight : X → List ℕ → Type 0) (name : List ℕ) (old late new : DeskView)
     (error : WorkError) → old.write_faults ≤ late.write_faults → late.write_faults ≤ new.write_faults → DeskWriteCause error late new
     → LeavesCut g course name old new → WrittenAnswers g course IsRight name old new (Err error)
 caused g course IsRight name old late new WriteFault before after cause left =
@@ -134,7 +134,7 @@ file-closed : (file : AnswerFile) (Keeps : List ℕ → Type 0) (asks : List ℕ
     → DeskWriteCause error late new → InquiryAnswers file Keeps asks Told numbers a name old new (Err error)
 file-closed file Keeps asks Told numbers a name old mid late new error done more cause limits basis may =
     let x = more limits basis may in
-    let g : Setting = setting_of file limits basis numbers in
+    let g : Script = setting_of file limits basis numbers in
     caused {X = Unit {0}} g (course_of file asks numbers) (λ y text. IsAnswered file limits text numbers (Told numbers)) name old late new error
     (omega (arith, done.created.counts.write_faults_stand, x.grew.counts.write_faults_stand)) done.closed.counts.write_faults_stand cause
     (leaves g (course_of file asks numbers) name x.text old new (holds name x.text old mid late new done x.grew)

@@ -13,10 +13,10 @@ use Rattle.dist_findings.specs.AnswerFiles.{AnswerFile, HasHeading, Inputs, limi
 use Rattle.dist_findings.specs.Findings.{findings}
 use Rattle.dist_findings.specs.declared.finding.Finding.{Finding}
 use Rattle.dist_findings.specs.declared.finding.Finding.TheVariants as finding
-use Rattle.dist_sweep.specs.Asking.{AskerView, question_lines}
-use Rattle.dist_sweep.specs.Words.{closing_line, true_variables}
 use Rattle.dist_inquiry.specs.Asking.{IsAsked, IsAt}
-use Rattle.dist_inquiry.specs.Inquiry.{Setting}
+use Rattle.dist_line_write.specs.Asking.{AskerView, question_lines}
+use Rattle.dist_line_write.specs.Script.{Script}
+use Rattle.dist_line_write.specs.Words.{closing_line, true_variables}
 
 -- what a question finds
 abbrev pub finding_of : List Word → Answer → Finding
@@ -25,11 +25,12 @@ finding_of question (answers.Refuted hints) = finding.Refuted question
 finding_of question answers.Undecided = finding.LeftUndecided question
 
 -- what a file with a first line of these numbers is written for
-abbrev pub setting_of : AnswerFile → Limits → Inputs → (numbers : List ℕ) → Setting
+abbrev pub setting_of : AnswerFile → Limits → Inputs → (numbers : List ℕ) → Script
 setting_of file limits basis numbers = record {
   first = first_line file.front numbers;
   limit = limit_of numbers;
-  inputs = basis;
+  variables = basis.variables;
+  inputs = basis.clauses;
   limits = limits;
 }
 
@@ -41,7 +42,7 @@ pub record IsRightBasis (file : AnswerFile) (limits : Limits) (numbers : List �
   pub fits : file.Fits basis numbers
 
 -- the text of lines with the end behind them
-abbrev pub whole_text : Setting → List CertRecord → List ℕ
+abbrev pub whole_text : Script → List CertRecord → List ℕ
 whole_text g lines = file_text g.first (lines ++ End ∷ [])
 
 -- What is kept of some findings, behind a first line of these numbers.
@@ -49,13 +50,13 @@ abbrev pub Noting : Type 0 → Type 1
 Noting N = (numbers : List ℕ) → List Finding → N → Type 0
 
 -- What is kept is what these lines hold, and what is noted is what they find.
-pub record IsNotedAt {N : Type 0} (Noted : Noting N) (g : Setting) (numbers : List ℕ) (before : List CertRecord)
+pub record IsNotedAt {N : Type 0} (Noted : Noting N) (g : Script) (numbers : List ℕ) (before : List CertRecord)
     (a : AskerView) (notes : N) : Type 0 where
   pub at : IsAt g before a
   pub noted : Noted numbers (findings before) notes
 
 -- The question was asked, its lines were written, and what it finds was noted.
-pub record IsAskedAndNoted {N : Type 0} (Noted : Noting N) (g : Setting) (numbers : List ℕ) (before : List CertRecord)
+pub record IsAskedAndNoted {N : Type 0} (Noted : Noting N) (g : Script) (numbers : List ℕ) (before : List CertRecord)
     (question : List Word) (old new : DeskView) (b : AskerView) (notes : N) (answer : Answer) : Type 0 where
   pub asked : IsAsked g before question old new b answer
   pub finds : findings (before ++ question_lines question asked.between (closing_line answer))
@@ -65,6 +66,6 @@ pub record IsAskedAndNoted {N : Type 0} (Noted : Noting N) (g : Setting) (number
 -- where what is kept is noted, the question was asked and noted
 abbrev pub NoteMore : {N : Type 0} → Noting N → DeskView → DeskView → AskerView → AskerView → N → N → List Word
     → Answer → Type 0
-NoteMore Noted old new a b notes after question answer = (g : Setting) (numbers : List ℕ) (before : List CertRecord)
+NoteMore Noted old new a b notes after question answer = (g : Script) (numbers : List ℕ) (before : List CertRecord)
     → IsNotedAt Noted g numbers before a notes
     → IsAskedAndNoted Noted g numbers before question old new b after answer

@@ -8,12 +8,13 @@ use Rattle.dist_cert.specs.FileLines.{lines_text}
 use Rattle.dist_findings.specs.AnswerFiles.{AnswerFile, Inputs}
 use Rattle.dist_findings.specs.Answers.{IsAnswered}
 use Rattle.dist_findings.specs.Findings.{findings}
+use Rattle.dist_findings.specs.Unclaimed.{clauses_alone}
 use Rattle.dist_findings.specs.declared.finding.Finding.{Finding}
-use Rattle.dist_sweep.specs.Asking.{AskerView}
-use Rattle.dist_sweep.specs.Sweeping.{new_writer}
+use Rattle.dist_subject.specs.Installed.{ModelsStand}
+use Rattle.dist_inquiry.specs.Asking.{IsAt}
+use Rattle.dist_line_write.specs.Asking.{AskerView, IsLogAt}
+use Rattle.dist_line_write.specs.Script.{new_writer, AreAsked, Asks, Script, Stops}
 use Rattle.dist_inquiry.specs.AnswerText.{IsRightBasis, setting_of}
-use Rattle.dist_inquiry.specs.Asking.{IsAt, IsLogAt}
-use Rattle.dist_inquiry.specs.Inquiry.{AreAsked, Asks, Setting, Stops}
 use Rattle.dist_inquiry.specs.Written.{Course, IsStopped, IsWholeText, WrittenAnswers}
 
 -- the findings of these lines decide the answer
@@ -33,7 +34,7 @@ pub record MaySettle (file : AnswerFile) (Keeps : List ℕ → Type 0) (limits :
 
 -- Lines were written behind the first one that ask what may be asked, and what they find decides the answer, which it
 -- tells.
-pub record IsSettled (file : AnswerFile) (asks : List ℕ → Asks) (Told : List ℕ → List Finding → Type 0) (g : Setting)
+pub record IsSettled (file : AnswerFile) (asks : List ℕ → Asks) (Told : List ℕ → List Finding → Type 0) (g : Script)
     (numbers : List ℕ) (old new : DeskView) (b : AskerView) : Type 0 where
   pub lines : List CertRecord
   pub grew : FileGrew (lines_text lines) old new
@@ -61,6 +62,7 @@ pub record MayInquire (file : AnswerFile) (Keeps : List ℕ → Type 0) (limits 
     (basis : Inputs) (a : AskerView) : Type 0 where
   pub right : IsRightBasis file limits numbers basis
   pub log : IsLogAt (setting_of file limits basis numbers) [] a.log a.limit
+  pub stand : ModelsStand (clauses_alone basis.variables basis.clauses)
   pub writer : a.writer ≡ new_writer limits
   pub keeps : Keeps numbers
 

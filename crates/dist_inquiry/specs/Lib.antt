@@ -1,7 +1,4 @@
-pub mod Inquiry
-pub mod InquiryLaws
 pub mod Asking
-pub mod Edges
 pub mod AnswerText
 pub mod Written
 pub mod Inquiring

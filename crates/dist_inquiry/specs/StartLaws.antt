@@ -13,10 +13,9 @@ use Rattle.dist_findings.specs.Unclaimed.{clauses_alone}
 use Rattle.dist_outside.specs.declared.limits.Limits.{Limits}
 use Rattle.dist_subject.specs.Installed.{ModelsStand}
 use Rattle.dist_subject.specs.MemberLaws.{model-alike}
-use Rattle.dist_sweep.specs.Asking.{AskerView}
-use Rattle.dist_sweep.specs.Sweeping.{new_writer}
+use Rattle.dist_line_write.specs.Asking.{AskerView, IsLogAt}
+use Rattle.dist_line_write.specs.Script.{new_writer}
 use Rattle.dist_inquiry.specs.AnswerText.{setting_of}
-use Rattle.dist_inquiry.specs.Asking.{IsLogAt}
 
 -- A model makes clauses over its variables true, as the set of its true variables does.
 pub alone-stand : (n : ℕ) (clauses : List (List Literal)) → All (IsClauseOver n) clauses
@@ -45,12 +44,11 @@ new_asker set limit limits = record {
 
 -- its log holds no lines
 pub log-at-start : (file : AnswerFile) (limits : Limits) (numbers : List ℕ) (set : ClauseList) (limit : ℕ)
-    → All (IsClauseOver set.variables) set.clauses → limit ≡ limit_of numbers
+    → limit ≡ limit_of numbers
     → IsLogAt (setting_of file limits (record { variables = set.variables; clauses = set.clauses }) numbers) []
     (new_asker set limit limits).log limit
-log-at-start file limits numbers set limit over is = record {
+log-at-start file limits numbers set limit is = record {
   limit_is = is;
-  stand = alone-stand set.variables set.clauses over;
   clauses = sym (append-nil set.clauses);
   inputs = refl;
   variables = refl;

@@ -5,19 +5,19 @@ ghost use Rattle.dist_outside.specs.Files.{IsNotWriting, IsWriting, Writing, whe
 ghost use Rattle.dist_outside.specs.Reading.{DeskWriteCause};
 ghost use Rattle.dist_cert.specs.FileLines.{IsOneLine};
 ghost use Rattle.dist_cert.specs.FirstLines.{first_line};
-ghost use Rattle.dist_sweep.specs.Script.{Grows};
+ghost use Rattle.dist_line_write.specs.Script.{Grows};
 ghost use Rattle.dist_inquiry.specs.Inquiring.{InquiryAnswers, InquiryMore, InquiryStops};
 
-use crate::asker::Inquirer;
 use crate::inquiring::Inquiring;
-use dist_cert::{first_line_text, forms_are_clear};
-use dist_outside::{Desk, Trouble, WorkError, file_grows, file_holds};
+use dist_cert::{CertRecord, first_line_text, forms_are_clear};
+use dist_line_write::{Asker, close_file, create_file};
+use dist_outside::{Desk, WorkError, file_grows, file_holds};
 use std::alloc::{AllocError, Global};
 
 /// Puts all lines, from the first to the end.
 fn put_all<S: Inquiring, D: Desk>(
     search: &mut S,
-    inquirer: &mut Inquirer,
+    inquirer: &mut Asker,
     line: &[u8],
     desk: &mut D,
 ) -> Result<(), WorkError>
@@ -37,34 +37,7 @@ fn put_all<S: Inquiring, D: Desk>(
     file_grows();
     inquirer.put_first(desk, line)?;
     search.settle(inquirer, desk)?;
-    inquirer.finish(desk)
-}
-
-/// Makes an empty file to be written.
-fn create<D: Desk>(desk: &mut D, name: &str) -> Result<(), WorkError>
-    requires idle { IsNotWriting (D.view desk.old).mode }
-    ensures ok { OnOk result (Holds name.now [] (Writing (where_told (D.view desk.old).files name.now)) (D.view desk.old) (D.view desk.new)) }
-    ensures err { OnErr result (NotCreated name.now (D.view desk.old) (D.view desk.new)) }
-    ensures cause { IfErr result (λ error. DeskWriteCause error (D.view desk.old) (D.view desk.new)) }
-{
-    match desk.create(name) {
-        Ok(()) => Ok(()),
-        Err(Trouble::Failed) => Err(WorkError::WriteFault),
-        Err(Trouble::NoMemory) => Err(WorkError::NoMemory),
-    }
-}
-
-/// Ends the writing of a file.
-fn close<D: Desk>(desk: &mut D) -> Result<(), WorkError>
-    requires writing { IsWriting (D.view desk.old).mode }
-    ensures closed { Closed (D.view desk.old) (D.view desk.new) }
-    ensures cause { IfErr result (λ error. DeskWriteCause error (D.view desk.old) (D.view desk.new)) }
-{
-    match desk.close() {
-        Ok(()) => Ok(()),
-        Err(Trouble::Failed) => Err(WorkError::WriteFault),
-        Err(Trouble::NoMemory) => Err(WorkError::NoMemory),
-    }
+    inquirer.put(desk, &CertRecord::End)
 }
 
 /// The text of the first line.
@@ -85,7 +58,7 @@ fn first_text<S: Inquiring>(
 pub fn write_inquiry<S: Inquiring, D: Desk>(
     alloc: Global,
     search: &mut S,
-    inquirer: &mut Inquirer,
+    inquirer: &mut Asker,
     numbers: &[u32],
     desk: &mut D,
     name: &str,
@@ -98,9 +71,9 @@ pub fn write_inquiry<S: Inquiring, D: Desk>(
 {
     file_holds();
     let line = first_text(alloc, search, numbers)?;
-    create(desk, name)?;
+    create_file(desk, name)?;
     let done = put_all(search, inquirer, &line, desk);
-    let closed = close(desk);
+    let closed = close_file(desk);
     drop(line);
     done?;
     closed

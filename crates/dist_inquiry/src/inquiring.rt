@@ -4,11 +4,10 @@ ghost use Rattle.dist_outside.specs.Files.{IsWriting};
 ghost use Rattle.dist_cert.specs.FileLines.{IsOneLine};
 ghost use Rattle.dist_findings.specs.AnswerFiles.{AnswerFile};
 ghost use Rattle.dist_findings.specs.declared.finding.Finding.{Finding};
-ghost use Rattle.dist_sweep.specs.Script.{Grows};
+ghost use Rattle.dist_line_write.specs.Script.{Grows, Asks};
 ghost use Rattle.dist_inquiry.specs.Inquiring.{SettleMore, SettleStops};
-ghost use Rattle.dist_inquiry.specs.Inquiry.{Asks};
 
-use crate::asker::Inquirer;
+use dist_line_write::Asker;
 use dist_outside::{Desk, WorkError};
 
 /// A search whose questions decide the answer of a file.
@@ -34,7 +33,7 @@ pub trait Inquiring {
         ensures one_line { IsOneLine (file self.now).front };
 
     /// Asks all that the answer needs.
-    fn settle<D: Desk>(&mut self, inquirer: &mut Inquirer, desk: &mut D) -> Result<(), WorkError>
+    fn settle<D: Desk>(&mut self, inquirer: &mut Asker, desk: &mut D) -> Result<(), WorkError>
         requires writing { IsWriting (D.view desk.old).mode }
         requires limit { 1 ≤ inquirer.old.limit }
         requires fits { fits self.old inquirer.old.log.variables }

@@ -5,18 +5,17 @@ ghost use Rattle.dist_cert.specs.Form.{AreLiterals};
 ghost use Rattle.dist_cert.specs.Groups.{clause_of};
 ghost use Rattle.dist_findings.specs.Findings.{IsFormed};
 ghost use Rattle.dist_solver.specs.declared.answers.Answer.TheVariants as answers;
-ghost use Rattle.dist_sweep.specs.Asking.{IsOver};
-ghost use Rattle.dist_sweep.specs.Script.{Grows};
-ghost use Rattle.dist_sweep.specs.Words.{IsAnswerOver};
+ghost use Rattle.dist_inquiry.specs.Asking.{AskStops};
+ghost use Rattle.dist_line_write.specs.Asking.{IsOver, AreRefuted};
+ghost use Rattle.dist_line_write.specs.Script.{Grows};
+ghost use Rattle.dist_line_write.specs.Words.{IsAnswerOver};
 ghost use Rattle.dist_inquiry.specs.AnswerText.{NoteMore, finding_of};
-ghost use Rattle.dist_inquiry.specs.Asking.{AreRefuted, AskStops};
 
-use crate::asker::Inquirer;
 use dist_cert::Items;
 use dist_findings::{Answering, Finding};
+use dist_line_write::{Asker, true_variables};
 use dist_outside::{Desk, WorkError, file_grows};
 use dist_solver::Answer;
-use dist_sweep::true_variables;
 use std::alloc::{AllocError, Global};
 
 /// What a question finds.
@@ -51,7 +50,7 @@ fn finding_of(
 pub fn ask_and_note<D: Desk, A: Answering>(
     alloc: Global,
     answering: &A,
-    inquirer: &mut Inquirer,
+    inquirer: &mut Asker,
     notes: &mut A::Notes,
     desk: &mut D,
     question: &[(u32, bool)],
@@ -78,7 +77,7 @@ pub fn ask_and_note<D: Desk, A: Answering>(
 pub fn refute_and_note<D: Desk, A: Answering>(
     alloc: Global,
     answering: &A,
-    inquirer: &mut Inquirer,
+    inquirer: &mut Asker,
     notes: &mut A::Notes,
     desk: &mut D,
     question: &[(u32, bool)],

@@ -12,7 +12,7 @@ use Rattle.dist_cert.specs.Groups.{claim_count}
 use Rattle.dist_cert.specs.LineRules.{HasRecordFault}
 use Rattle.dist_cert.specs.PartByRecordsLaws.{IsLine}
 use Rattle.dist_sweep.specs.ClaimLinesLaws.{IsClaimLine, next-claim}
-use Rattle.dist_sweep.specs.LineLaws.{no-future, none-in}
+use Rattle.dist_line_write.specs.LineLaws.{no-future, none-in}
 use Rattle.dist_sweep.specs.Script.{Setting, matter_in}
 
 pub outdated-line : (g : Setting) (before : List CertRecord) (p : ℕ) → list_any is_end before ≡ false

@@ -8,8 +8,8 @@ use Rattle.std.proofs.lemmas.List.{get_or_append_left, get_or_at}
 use Rattle.dist_clause.specs.Formula.{value_of}
 use Rattle.dist_space.specs.Space.{IsSpace, SpaceView, variable_of}
 use Rattle.dist_space.specs.declared.meaning.Meaning.TheVariants.{Present}
-use Rattle.dist_sweep.specs.TrueOnesLaws.{true-ones}
-use Rattle.dist_sweep.specs.Words.{true_variables}
+use Rattle.dist_line_write.specs.TrueOnesLaws.{true-ones}
+use Rattle.dist_line_write.specs.Words.{true_variables}
 use Rattle.dist_outdated.specs.OutdatedPrivate.{AreLatest, AreNoted, IsLatestWith, IsNextHeld}
 use Rattle.dist_sweep.specs.FuturesLaws.{present-in}
 

@@ -18,15 +18,16 @@ use Rattle.dist_cert.specs.Groups.{claim_count, group, installation_at, installa
 use Rattle.dist_cert.specs.Part.{IsQuestionOn}
 use Rattle.dist_space.specs.Space.{IsSpace, SpaceView, variable_of}
 use Rattle.dist_space.specs.declared.meaning.Meaning.TheVariants.{Present}
-use Rattle.dist_sweep.specs.Asking.{AskerView, Holds, IsOver, question_lines}
+use Rattle.dist_line_write.specs.Asking.{AskerView, IsOver, question_lines}
+use Rattle.dist_line_write.specs.Words.{true_variables}
+use Rattle.dist_sweep.specs.Asking.{Holds}
+use Rattle.dist_sweep.specs.Script.{Setting, matter_in}
 use Rattle.dist_sweep.specs.Claiming.{MayClaim, Suits}
 use Rattle.dist_sweep.specs.ClaimLinesLaws.{unknown-line, same-installed}
 use Rattle.dist_sweep.specs.QuestionLinesLaws.{AreAsked, closed-here, count-after, installed-after}
-use Rattle.dist_sweep.specs.Script.{Setting, matter_in}
 use Rattle.dist_sweep.specs.Window.{IsWindowAt, WindowView}
 use Rattle.dist_sweep.specs.WindowLaws.{window-more, window-same}
-use Rattle.dist_sweep.specs.Words.{true_variables}
-use Rattle.dist_sweep.specs.declared.asker.Reply.TheVariants as replies
+use Rattle.dist_sweep.specs.declared.asking.Reply.TheVariants as replies
 use Rattle.dist_sweep.specs.Futures.{FitsSpace, IsOfSpace}
 use Rattle.dist_outdated.specs.OutdatedPrivate.{AreLatest, AreNoted, IsReached, KeepsOutdated, OutdatedView}
 use Rattle.dist_sweep.specs.AskedLaws.{asked-lines, IsReady, Known, nothing-in, PutsBehind, PutsFrom, Stands}

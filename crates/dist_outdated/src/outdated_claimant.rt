@@ -7,15 +7,16 @@ ghost use Rattle.dist_outside.specs.Files.{IsWriting};
 ghost use Rattle.dist_space.specs.Space.{IsSpace, variable_of};
 ghost use Rattle.dist_space.specs.declared.meaning.Meaning.TheVariants.{Present};
 ghost use Rattle.dist_sweep.specs.Claiming.{ClaimMore, ClaimStops, Suits};
-ghost use Rattle.dist_sweep.specs.Script.{Grows};
+ghost use Rattle.dist_line_write.specs.Script.{Grows};
 ghost use Rattle.dist_sweep.specs.Futures.{FitsSpace};
 ghost use Rattle.dist_outdated.specs.OutdatedPrivate.{AreNoted, IsNextHeld, IsReached, KeepsOutdated};
 
 use dist_cert::{CertRecord, Claim, REACH};
 use dist_clause::Assignment;
+use dist_line_write::Asker;
 use dist_outside::{Desk, WorkError, file_grows};
 use dist_space::{Meaning, Space, packages_come_first};
-use dist_sweep::{Asker, Claimant, Reply, Window, next_true};
+use dist_sweep::{Claimant, Reply, Window, ask, next_true};
 use std::alloc::{AllocError, Global};
 use std::marker::Model;
 
@@ -174,7 +175,7 @@ impl OutdatedClaimant {
         file_grows();
         let variable = self.variable(package);
         let question = alone(self.alloc, variable)?;
-        match asker.ask(desk, &question)? {
+        match ask(asker, desk, &question, &[], None)? {
             Reply::Found(values) => {
                 let number = self.add(window, values)?;
                 asker.put(desk, &CertRecord::Alive(package, number))?;

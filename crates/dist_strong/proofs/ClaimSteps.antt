@@ -8,10 +8,12 @@ use Rattle.dist_cert.specs.Accepted.{claim_in}
 use Rattle.dist_cert.specs.Form.{record_text}
 use Rattle.dist_cert.specs.PartByRecordsLaws.{IsLine}
 use Rattle.dist_cert.specs.Writing.{ended}
-use Rattle.dist_sweep.specs.Asking.{AskerView}
+use Rattle.dist_line_write.specs.Asking.{AskerView}
+use Rattle.dist_line_write.specs.Script.{PutMore, PutStops}
+use Rattle.dist_sweep.specs.Script.{Setting, matter_in}
+use Rattle.dist_sweep.specs.ScriptLaws.{put-stopped}
 use Rattle.dist_strong.specs.ClaimingPrivate.{IsStrongLine, StrongMore}
 use Rattle.dist_strong.specs.Group.{GroupView, HasNoCandidate}
-use Rattle.dist_sweep.specs.Script.{Setting, PutMore, PutStops, matter_in}
 use Rattle.dist_strong.specs.SettlingPrivate.{Fits, IsSettling, SettleStops, IsOfStrong}
 use Rattle.dist_sweep.specs.Window.{WindowView}
 use Rattle.dist_strong.proofs.StrongLine.{strong-line}
@@ -47,4 +49,5 @@ pub strong-stops : (old new : DeskView) (a : AskerView) (w : WindowView) (kept :
     → Fits a w kept → HasNoCandidate w kept → IsStrongLine w kept step → w.count < 2 ^ 32
     → PutStops a.writer step old new error → SettleStops old new a w kept error
 strong-stops old new a w kept step error fits_variables fits none line small stops g before settling =
-    stops g before settling.at.writer (strong-next g before a w kept step fits_variables fits settling none line small)
+    put-stopped g before step a.writer old new error stops settling.at.writer
+    (strong-next g before a w kept step fits_variables fits settling none line small)

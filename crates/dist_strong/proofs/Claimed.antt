@@ -22,27 +22,30 @@ use Rattle.dist_cert.specs.Groups.{claim_count, group, installations, installed_
 use Rattle.dist_cert.specs.Part.{IsNextQuestion, IsQuestionOn}
 use Rattle.dist_cert.specs.PartByRecordsLaws.{IsLine}
 use Rattle.dist_cert.specs.Writing.{ended}
-use Rattle.dist_sweep.specs.Asking.{AskerView, Holds, IsAsked, IsOver, question_lines, AskMore, AskStops}
+use Rattle.dist_line_write.specs.Asking.{AskerView, IsOver, question_lines}
+use Rattle.dist_line_write.specs.Script.{PutMore, PutStops}
+use Rattle.dist_line_write.specs.ScriptLaws.{BeginsLaw, TwiceLaw}
+use Rattle.dist_line_write.specs.TrueOnesLaws.{true-ones}
+use Rattle.dist_line_write.specs.Words.{true_variables}
+use Rattle.dist_sweep.specs.Asking.{Holds, IsAsked, AskMore, AskStops}
+use Rattle.dist_sweep.specs.Script.{Setting, matter_in}
+use Rattle.dist_sweep.specs.ScriptLaws.{put-stopped, stops-after, stops-for-memory}
 use Rattle.dist_strong.specs.ClaimingPrivate.{StrongClaims, StrongStops, StrongMore, StrongSuits}
 use Rattle.dist_sweep.specs.Claiming.{IsSwept}
 use Rattle.dist_strong.specs.Group.{GroupView, new_group}
-use Rattle.dist_sweep.specs.Script.{Setting, PutMore, PutStops, matter_in}
 use Rattle.dist_strong.specs.SettlingPrivate.{Fits, IsGroupAt, IsSettling, SettleMore, SettleStops, without}
 use Rattle.dist_strong.specs.SettlingPrivate.{IsOfStrong}
 use Rattle.dist_sweep.specs.Window.{WindowView}
-use Rattle.dist_sweep.specs.Words.{true_variables}
-use Rattle.dist_sweep.specs.declared.asker.Reply.{Reply}
+use Rattle.dist_sweep.specs.declared.asking.Reply.{Reply}
 use Rattle.dist_sweep.specs.ClaimLinesLaws.{uninstallable-line, unknown-line, put-claimed, claim-after}
 use Rattle.dist_sweep.specs.ClaimLinesLaws.{uninstallable-kind, unknown-kind}
 use Rattle.dist_sweep.specs.QuestionLinesLaws.{question-claims, reply-line, AreAsked, closed-here, count-after}
 use Rattle.dist_sweep.specs.QuestionLinesLaws.{in-group-after}
 use Rattle.dist_sweep.specs.WindowLaws.{window-more, window-same}
 use Rattle.dist_strong.proofs.GroupSteps.{question-after}
-use Rattle.dist_sweep.specs.ScriptLaws.{BeginsLaw, TwiceLaw, stops-after, stops-for-memory}
 use Rattle.dist_strong.proofs.SettleSteps.{added-some}
-use Rattle.dist_sweep.specs.TrueOnesLaws.{true-ones}
 use Rattle.dist_cert.specs.declared.records.Claim.TheVariants as claims
-use Rattle.dist_sweep.specs.declared.asker.Reply.TheVariants as replies
+use Rattle.dist_sweep.specs.declared.asking.Reply.TheVariants as replies
 
 -- ---- the question
 
@@ -190,7 +193,7 @@ pub uninstallable-stops : TwiceLaw → (old mid new : DeskView) (a b : AskerView
 uninstallable-stops twice old mid new a b w p words reply error fits are is more suits stops g before may strong =
     let asked = alone-asked old mid a b w p words reply replies.Refuted are is more suits g before may.swept may.next strong in
     stops-after twice g before (question_lines (yes p ∷ []) asked.between asked.answer) old mid new error asked.grew
-    (stops g (before ++ question_lines (yes p ∷ []) asked.between asked.answer) asked.at.writer
+    (put-stopped g (before ++ question_lines (yes p ∷ []) asked.between asked.answer) (NotInstallable p) b.writer mid new error stops asked.at.writer
     (uninstallable-next g before p old mid a b w fits suits may.swept may.next strong asked))
 
 pub unknown-stops : TwiceLaw → (old mid new : DeskView) (a b : AskerView) (w : WindowView) (p : ℕ) (words : List Word) (reply : Reply) (error : WorkError)
@@ -199,7 +202,7 @@ pub unknown-stops : TwiceLaw → (old mid new : DeskView) (a b : AskerView) (w :
 unknown-stops twice old mid new a b w p words reply error fits are is more suits stops g before may strong =
     let asked = alone-asked old mid a b w p words reply replies.Undecided are is more suits g before may.swept may.next strong in
     stops-after twice g before (question_lines (yes p ∷ []) asked.between asked.answer) old mid new error asked.grew
-    (stops g (before ++ question_lines (yes p ∷ []) asked.between asked.answer) asked.at.writer
+    (put-stopped g (before ++ question_lines (yes p ∷ []) asked.between asked.answer) (Unknown p) b.writer mid new error stops asked.at.writer
     (unknown-next g before p old mid a b w fits suits may.swept may.next strong asked))
 
 -- ---- the group behind the first installation

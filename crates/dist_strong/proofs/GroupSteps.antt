@@ -14,14 +14,14 @@ use Rattle.dist_cert.specs.ClaimRules.{yes, no}
 use Rattle.dist_cert.specs.Form.{Word}
 use Rattle.dist_cert.specs.Groups.{claim_count, group, installations, IsClosedBy, IsRefutedIn, IsUndecidedIn}
 use Rattle.dist_cert.specs.Part.{IsNextQuestion, IsQuestionOn}
-use Rattle.dist_sweep.specs.Asking.{AskerView}
-use Rattle.dist_strong.specs.Group.{GroupView, IsCandidate, IsNarrowed}
+use Rattle.dist_line_write.specs.Asking.{AskerView}
+use Rattle.dist_line_write.specs.TrueOnesLaws.{true-ones}
+use Rattle.dist_line_write.specs.Words.{true_variables}
 use Rattle.dist_sweep.specs.Script.{Setting, matter_in}
+use Rattle.dist_strong.specs.Group.{GroupView, IsCandidate, IsNarrowed}
 use Rattle.dist_strong.specs.SettlingPrivate.{AreNoted, IsGroupAt, IsSettling, without}
 use Rattle.dist_sweep.specs.Window.{WindowView}
-use Rattle.dist_sweep.specs.Words.{true_variables}
 use Rattle.dist_sweep.specs.QuestionLinesLaws.{questions-of, AreAsked, group-after, count-after, in-group-after, closed-after, closed-here}
-use Rattle.dist_sweep.specs.TrueOnesLaws.{true-ones}
 use Rattle.dist_strong.proofs.Opens.{OpenParts, never-open, open-parts, still-closed, value-other, value-same}
 
 -- ---- the question may be asked

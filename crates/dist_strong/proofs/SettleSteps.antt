@@ -16,20 +16,22 @@ use Rattle.dist_cert.specs.Form.{Word}
 use Rattle.dist_cert.specs.Groups.{installed_in}
 use Rattle.dist_cert.specs.Part.{IsNextQuestion}
 use Rattle.dist_cert.specs.FileLines.{lines_text}
-use Rattle.dist_sweep.specs.Asking.{AskerView, Holds, IsAsked, question_lines, AskMore, AskStops}
-use Rattle.dist_strong.specs.Group.{GroupView, IsCandidate, IsNarrowed, is_open}
+use Rattle.dist_line_write.specs.Asking.{AskerView, question_lines}
+use Rattle.dist_line_write.specs.ScriptLaws.{BeginsLaw, TwiceLaw, lines-more}
+use Rattle.dist_line_write.specs.Words.{true_variables}
+use Rattle.dist_sweep.specs.Asking.{Holds, IsAsked, AskMore, AskStops}
 use Rattle.dist_sweep.specs.Script.{Setting, matter_in}
+use Rattle.dist_sweep.specs.ScriptLaws.{stops-after, stops-for-memory}
+use Rattle.dist_strong.specs.Group.{GroupView, IsCandidate, IsNarrowed, is_open}
 use Rattle.dist_strong.specs.SettlingPrivate.{Fits, HasSizes, IsFurther, IsSettling, SettleMore, SettleStops, Settles}
 use Rattle.dist_strong.specs.SettlingPrivate.{without}
 use Rattle.dist_sweep.specs.Window.{WindowView}
-use Rattle.dist_sweep.specs.Words.{true_variables}
-use Rattle.dist_sweep.specs.declared.asker.Reply.{Reply}
+use Rattle.dist_sweep.specs.declared.asking.Reply.{Reply}
 use Rattle.dist_sweep.specs.QuestionLinesLaws.{any-join, question-claims, reply-line, AreAsked}
 use Rattle.dist_strong.proofs.GroupSteps.{found-step, question-on, refuted-step, undecided-step}
 use Rattle.dist_strong.proofs.Opens.{never-open, open-from, open-parts, value-other, value-same}
 use Rattle.dist_sweep.specs.WindowLaws.{window-more, window-same}
-use Rattle.dist_sweep.specs.ScriptLaws.{BeginsLaw, TwiceLaw, lines-more, stops-after, stops-for-memory}
-use Rattle.dist_sweep.specs.declared.asker.Reply.TheVariants as replies
+use Rattle.dist_sweep.specs.declared.asking.Reply.TheVariants as replies
 
 -- ---- one after another
 

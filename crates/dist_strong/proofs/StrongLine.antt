@@ -18,15 +18,15 @@ use Rattle.dist_cert.specs.GroupLaws.{installations-append}
 use Rattle.dist_cert.specs.LineRules.{HasRecordFault}
 use Rattle.dist_cert.specs.PartByRecordsLaws.{IsLine}
 use Rattle.dist_strong.specs.Group.{AreLeft, GroupView, HasNoCandidate, IsLeft}
+use Rattle.dist_line_write.specs.LineLaws.{no-future, none-in, plains-small}
+use Rattle.dist_line_write.specs.TrueOnesLaws.{contained, true-low, true-ones, true-rising, true-upto}
+use Rattle.dist_line_write.specs.Words.{true_variables}
 use Rattle.dist_sweep.specs.Script.{Setting, matter_in}
 use Rattle.dist_strong.specs.SettlingPrivate.{IsGroupAt, IsOfStrong, without}
 use Rattle.dist_sweep.specs.Window.{HasEach, IsWindowAt, WindowView, numbers_of}
-use Rattle.dist_sweep.specs.Words.{true_variables}
 use Rattle.dist_sweep.specs.WindowLaws.{each-named, latest-named, named-each, numbers-named, numbers-rising}
 use Rattle.dist_sweep.specs.ClaimLinesLaws.{next-claim}
 use Rattle.dist_strong.proofs.Opens.{open-from}
-use Rattle.dist_sweep.specs.LineLaws.{no-future, none-in, plains-small}
-use Rattle.dist_sweep.specs.TrueOnesLaws.{contained, true-low, true-ones, true-rising, true-upto}
 use Rattle.dist_cert.specs.declared.faults.CertCause.TheVariants as causes
 
 -- ---- an installation is named

@@ -7,11 +7,11 @@ use Rattle.dist_cert.specs.declared.records.CertRecord.TheVariants.{Strong}
 use Rattle.dist_cert.specs.declared.records.Claim.{Claim}
 use Rattle.dist_strong.specs.Group.{AreLeft, GroupView}
 use Rattle.dist_strong.specs.SettlingPrivate.{IsOfStrong, IsSettling}
-use Rattle.dist_sweep.specs.Asking.{AskerView}
-use Rattle.dist_sweep.specs.Claiming.{IsClaimed, MayClaim}
+use Rattle.dist_line_write.specs.Asking.{AskerView}
+use Rattle.dist_line_write.specs.Words.{true_variables}
 use Rattle.dist_sweep.specs.Script.{Setting, Stops}
+use Rattle.dist_sweep.specs.Claiming.{IsClaimed, MayClaim}
 use Rattle.dist_sweep.specs.Window.{WindowView, numbers_of}
-use Rattle.dist_sweep.specs.Words.{true_variables}
 
 -- what the calls of a claim are given, apart from the lines
 pub record StrongSuits (a : AskerView) (w : WindowView) (p : ℕ) : Type 0 where

@@ -12,9 +12,10 @@ use Rattle.dist_cert.specs.Form.{Word}
 use Rattle.dist_cert.specs.Groups as lines
 use Rattle.dist_cert.specs.ClaimRules.{yes, no}
 use Rattle.dist_cert.specs.FileLines.{lines_text}
-use Rattle.dist_sweep.specs.Asking.{AskerView, IsAt}
-use Rattle.dist_strong.specs.Group.{GroupView, is_open}
+use Rattle.dist_line_write.specs.Asking.{AskerView}
+use Rattle.dist_sweep.specs.Asking.{IsAt}
 use Rattle.dist_sweep.specs.Script.{Setting, Stops, matter_in}
+use Rattle.dist_strong.specs.Group.{GroupView, is_open}
 use Rattle.dist_sweep.specs.Window.{WindowView, IsWindowAt}
 
 -- The certificate is of kind strong, where the packages are the variables.

@@ -3,8 +3,9 @@ ghost use Rattle.std.specs.Prelude.{◌≤◌};
 
 use crate::claiming::settle;
 use dist_cert::Claim;
+use dist_line_write::Asker;
 use dist_outside::{Desk, WorkError};
-use dist_sweep::{Asker, Claimant, Window};
+use dist_sweep::{Claimant, Window};
 use std::alloc::Global;
 
 /// Makes the claims on strong dependencies. Between them it keeps nothing.

@@ -9,15 +9,16 @@ ghost use Rattle.dist_cert.specs.ClaimRules.{yes};
 ghost use Rattle.dist_cert.specs.Form.{AreFromOne, KeepsRules};
 ghost use Rattle.dist_strong.specs.ClaimingPrivate.{IsStrongLine, StrongClaims, StrongMore, StrongStops, StrongSuits};
 ghost use Rattle.dist_strong.specs.Group.{HasNoCandidate, new_group};
-ghost use Rattle.dist_sweep.specs.Script.{Grows};
+ghost use Rattle.dist_line_write.specs.Script.{Grows};
 ghost use Rattle.dist_strong.specs.SettlingPrivate.{Fits, SettleStops};
 
 use crate::group::Group;
 use crate::settling::ask_candidates;
 use dist_cert::{CertRecord, Claim, Items, Numbers};
 use dist_clause::Assignment;
+use dist_line_write::Asker;
 use dist_outside::{Desk, WorkError, file_grows};
-use dist_sweep::{Asker, Reply, Window};
+use dist_sweep::{Reply, Window, ask};
 use std::alloc::{AllocError, Global};
 
 /// The question of a package.
@@ -149,7 +150,7 @@ pub(crate) fn settle<D: Desk>(
     file_grows();
     let _stated = asker.variables();
     let question = alone(alloc, package)?;
-    match asker.ask(desk, &question)? {
+    match ask(asker, desk, &question, &[], None)? {
         Reply::Found(values) => {
             let mut group = first_group(alloc, window, package, values)?;
             claim_group(alloc, asker, window, &mut group, desk)

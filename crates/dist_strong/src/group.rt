@@ -1,10 +1,11 @@
 //! What is kept of the group of a claim.
 ghost use Rattle.std.specs.Prelude.{◌≡◌, ◌-◌, ◌≤◌, ◌↔◌, IfOk, IsTrue, length, slice_set, true};
 ghost use Rattle.dist_strong.specs.Group.{AreLeft, GroupView, IsLeft, IsNarrowed, new_group};
-ghost use Rattle.dist_sweep.specs.Words.{true_variables};
+ghost use Rattle.dist_line_write.specs.Words.{true_variables};
 
 use dist_clause::Assignment;
-use dist_sweep::{Window, and_into, copy_from, next_true, true_variables};
+use dist_line_write::true_variables;
+use dist_sweep::{Window, and_into, copy_from, next_true};
 use std::alloc::{AllocError, Global};
 use std::marker::Model;
 

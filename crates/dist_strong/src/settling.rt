@@ -1,16 +1,17 @@
 //! The group of a claim: each package that may be strongly needed is asked for once.
 ghost use Rattle.std.specs.Prelude.{◌≡◌, ◌≢◌, ◌≤◌, IfErr, IfOk, OnOk};
 ghost use Rattle.dist_outside.specs.Files.{IsWriting};
-ghost use Rattle.dist_sweep.specs.Asking.{IsOver};
+ghost use Rattle.dist_line_write.specs.Asking.{IsOver};
+ghost use Rattle.dist_line_write.specs.Script.{Grows};
 ghost use Rattle.dist_strong.specs.Candidates.{AreCandidates};
 ghost use Rattle.dist_strong.specs.Group.{HasNoCandidate, IsCandidate};
-ghost use Rattle.dist_sweep.specs.Script.{Grows};
 ghost use Rattle.dist_strong.specs.SettlingPrivate.{Fits, IsFurther, SettleMore, SettleStops, without};
 
 use crate::candidates::Candidates;
 use crate::group::Group;
+use dist_line_write::Asker;
 use dist_outside::{Desk, WorkError, file_grows};
-use dist_sweep::{Asker, Reply, Window};
+use dist_sweep::{Reply, Window, ask};
 use std::alloc::{AllocError, Global};
 
 /// The question of a package without another one.
@@ -46,7 +47,7 @@ fn ask_without<D: Desk>(
 {
     file_grows();
     let question = without(candidates.alloc(), group.claimed(), other)?;
-    match asker.ask_with(desk, &question, &[], Some(candidates.row()))? {
+    match ask(asker, desk, &question, &[], Some(candidates.row()))? {
         Reply::Found(values) => {
             candidates.add(window, group, values)?;
             Ok(())

@@ -1,96 +1,140 @@
--- A question with all its lines.
-use Rattle.std.proofs.Common.{◌≡◌, ◌≢◌, ℕ, ◌<◌, ◌≤◌, ◌^◌, ◌++◌, Bool, false, List, [], ◌∷◌, length, refl, ap, sym, subst, ◌∙◌, append_assoc, append-nil, arith}
-use Rattle.std.proofs.Common.{Ok}
-use Rattle.std.specs.List.{All, list_any}
-use Rattle.std.proofs.lemmas.List.Elements.{All-map}
-use Rattle.dist_clause.specs.Formula.{Literal, literal, IsClauseOver, IsTrueLiteral, value_of}
-use Rattle.dist_derive.specs.ClauseLog.{ClauseLog}
-use Rattle.dist_outside.specs.DeskView.{DeskView, FileGrew}
+-- A question of a claim with all its lines, by what the asker says of it.
+use Rattle.std.proofs.Common.{◌≡◌, ◌⊎◌, inl, inr, ℕ, Bool, ap, sym, subst, ◌∙◌, List, [], ◌∷◌, ◌++◌, refl}
+use Rattle.std.proofs.lemmas.Bool.{false≢true}
+use Rattle.dist_outside.specs.DeskView.{DeskView}
 use Rattle.dist_outside.specs.declared.trouble.WorkError.{WorkError}
-use Rattle.dist_outside.specs.declared.trouble.WorkError.TheVariants.{NoMemory}
-use Rattle.dist_solver.specs.Ask.{IsAnswer}
+use Rattle.dist_outside.specs.declared.trouble.WorkError.TheVariants.{ReadFault, WriteFault, TooLarge, NoMemory}
+use Rattle.dist_cert.specs.declared.faults.CertCause.{CertCause}
+use Rattle.dist_cert.specs.declared.faults.CertCause.TheVariants as causes
+use Rattle.dist_cert.specs.declared.records.CertRecord.{CertRecord}
+use Rattle.dist_cert.specs.declared.records.CertRecord.TheVariants.{Question, Derived, Refuted, Installation, Undecided}
+use Rattle.dist_cert.specs.Form.{Word}
+use Rattle.dist_cert.specs.LineRules.{HasRecordFault}
+use Rattle.dist_cert.specs.PartByRecordsLaws.{IsLine}
+use Rattle.dist_line_write.specs.Asking.{AskerView, question_lines}
+use Rattle.dist_line_write.specs.Asking.{AskMore as AskedMore, AskStops as AskedStops, Holds as AnswerHolds, IsAt as StandsAt}
+use Rattle.dist_line_write.specs.LineLaws.{is-future, no-future, none-in}
+use Rattle.dist_line_write.specs.Script.{AreAsked, MayAsk}
+use Rattle.dist_line_write.specs.Script.{AllNext as AllComeNext, IsCutOff as IsCutLine, IsLine as IsQuestionLine, Stops as StopsAsking}
+use Rattle.dist_line_write.specs.Script.{StopsBy as StopsAskingBy}
+use Rattle.dist_line_write.specs.ScriptLaws.{question-asked, stops-asking}
+use Rattle.dist_line_write.specs.TrueOnesLaws.{true-ones}
+use Rattle.dist_line_write.specs.Words.{closing_line, true_variables}
 use Rattle.dist_solver.specs.declared.answers.Answer.{Answer}
 use Rattle.dist_solver.specs.declared.answers.Answer.TheVariants as answers
-use Rattle.dist_cert.specs.declared.records.CertRecord.{CertRecord}
-use Rattle.dist_cert.specs.declared.records.CertRecord.TheVariants.{Question, Installation}
-use Rattle.dist_cert.specs.Form.{Word, record_text, is_end}
-use Rattle.dist_cert.specs.Groups.{clause_of, derived, derived_in}
-use Rattle.dist_cert.specs.Part.{IsNextQuestion}
-use Rattle.dist_cert.specs.PartByRecordsLaws.{IsLine}
-use Rattle.dist_cert.specs.FileLines.{lines_text}
-use Rattle.dist_cert.specs.Writing.{WriterView, ended}
-use Rattle.dist_sweep.specs.declared.asker.Reply.{Reply}
-use Rattle.dist_sweep.specs.declared.asker.Reply.TheVariants as replies
-use Rattle.dist_sweep.specs.Asking.{AskerView, AskStops, Holds, IsAsked, IsAt, IsLogAt, IsOver, IsReplyLine, IsReplyOf, MayDerive}
-use Rattle.dist_sweep.specs.Script.{Setting, IsWriter, PutMore, PutStops, Stops, matter_in}
-use Rattle.dist_sweep.specs.Words.{closing_line, true_variables}
-use Rattle.dist_cert.specs.ListLaws.{pairs-map}
-use Rattle.dist_sweep.specs.LineLaws.{keeps-same, derived-append, none-ended}
-use Rattle.dist_sweep.proofs.Lines.{question-line}
-use Rattle.dist_sweep.specs.ScriptLaws.{BeginsLaw, TwiceLaw, lines-more, one-line, stops-after, stops-for-memory}
-use Rattle.dist_sweep.proofs.Closing.{Derives, DerivesNone}
+use Rattle.dist_subject.specs.Installed.{AreTrueOf, ModelsStand}
+use Rattle.dist_sweep.specs.Asking.{AskMore, AskStops, Holds, IsAt, IsReplyLine, IsReplyOf}
+use Rattle.dist_sweep.specs.Script.{Setting, AllNext, AreWritten, IsCutOff, Stops, StopsBy, matter_in, questions_of, script_of}
+use Rattle.dist_sweep.specs.ScriptLaws.{next-join, passes-in, stands-behind}
+use Rattle.dist_sweep.specs.declared.asking.Reply.{Reply}
+use Rattle.dist_sweep.specs.declared.asking.Reply.TheVariants as replies
 
-pub clause-over : (n : ℕ) (words : List Word) → IsOver n words → IsClauseOver n (clause_of words)
-clause-over n words over = record {
-  in_range = All-map (λ l. (1 ≤ l.variable) × (l.variable ≤ n)) (λ (word : Word). literal word.0 word.1) words
-      (λ k d within. (over.form.0 k d within, over.upto k d within));
-  distinct = pairs-map (λ l m. l.variable ≢ m.variable) (λ (word : Word). literal word.0 word.1) words over.form.1;
+-- ---- lines of questions among those of a certificate
+
+line-in : (g : Setting) (before : List CertRecord) (step : CertRecord) → ModelsStand (matter_in g)
+    → IsQuestionLine (script_of g) before step → MayAsk (questions_of g) before step → IsLine (matter_in g) g.header before step
+line-in g before (Question words) stand line may =
+    record { form = line.form; not_ended = line.not_ended; faultless = none; next = may }
+  where
+    none : (cause : CertCause) → ¬ HasRecordFault (matter_in g) g.header before (Question words) cause
+    none causes.OutOfOrder f = none-in _ f
+    none causes.NotAFuture f = no-future (matter_in g) g.header.kind (Question words) refl f
+    none causes.WrongClaim f = false≢true f.0
+    none cause f = line.faultless cause f
+line-in g before (Derived literals hints) stand line may = record {
+  form = line.form;
+  not_ended = line.not_ended;
+  faultless = none;
+  next = (
+    record {
+      question = line.next.0.question;
+      since = line.next.0.since;
+      asking = line.next.0.asking;
+      line_left = line.next.0.line_left;
+      is_new = line.next.0.is_new;
+    },
+    line.next.1,
+  );
+}
+  where
+    none : (cause : CertCause) → ¬ HasRecordFault (matter_in g) g.header before (Derived literals hints) cause
+    none causes.OutOfOrder f = none-in _ f
+    none causes.NotAFuture f = no-future (matter_in g) g.header.kind (Derived literals hints) refl f
+    none causes.WrongClaim f = false≢true f.0
+    none cause f = line.faultless cause f
+line-in g before (Refuted hints) stand line may =
+    record { form = line.form; not_ended = line.not_ended; faultless = none; next = line.next }
+  where
+    none : (cause : CertCause) → ¬ HasRecordFault (matter_in g) g.header before (Refuted hints) cause
+    none causes.NotAFuture f = no-future (matter_in g) g.header.kind (Refuted hints) refl f
+    none causes.WrongClaim f = false≢true f.0
+    none cause f = line.faultless cause f
+line-in g before (Installation variables) stand line may =
+    record { form = line.form; not_ended = line.not_ended; faultless = none; next = line.next.0 }
+  where
+    trues : AreTrueOf line.next.1.values variables
+    trues = subst (AreTrueOf line.next.1.values) (sym line.next.1.are) (true-ones line.next.1.values)
+
+    none : (cause : CertCause) → ¬ HasRecordFault (matter_in g) g.header before (Installation variables) cause
+    none causes.OutOfOrder f = none-in _ f
+    none causes.NotAFuture f = is-future (matter_in g) g.header.kind variables
+        (stand line.next.1.values variables line.next.1.size line.next.1.model trues).0 f
+    none causes.NotAnInstallation f = f (stand line.next.1.values variables line.next.1.size line.next.1.model trues).1
+    none causes.WrongClaim f = false≢true f.0
+    none cause f = line.faultless cause f
+line-in g before Undecided stand line may =
+    record { form = line.form; not_ended = line.not_ended; faultless = none; next = line.next }
+  where
+    none : (cause : CertCause) → ¬ HasRecordFault (matter_in g) g.header before Undecided cause
+    none causes.NotAFuture f = no-future (matter_in g) g.header.kind Undecided refl f
+    none causes.WrongClaim f = false≢true f.0
+    none cause f = line.faultless cause f
+line-in g before step stand line may = absurd line.next
+
+all-in : (g : Setting) (before steps : List CertRecord) → ModelsStand (matter_in g) → AllComeNext (script_of g) before steps
+    → AreAsked (questions_of g) before steps → AllNext g before steps
+all-in g before [] stand all asked = tt
+all-in g before (step ∷ steps) stand all asked =
+    (line-in g before step stand all.0 asked.0, all-in g (before ++ step ∷ []) steps stand all.1 asked.1)
+
+-- ---- where the writing stops
+
+cut-in : (g : Setting) (lines : List CertRecord) (cut : List ℕ) → ModelsStand (matter_in g)
+    → (cut ≡ []) ⊎ IsCutLine (script_of g) (questions_of g) lines cut → (cut ≡ []) ⊎ IsCutOff g lines cut
+cut-in g lines cut stand (inl none) = inl none
+cut-in g lines cut stand (inr off) = inr (off.0, line-in g lines off.0 stand off.1.0 off.1.1, off.2)
+
+by-in : (g : Setting) (lines : List CertRecord) (cut : List ℕ) (old new : DeskView) (error : WorkError) → ModelsStand (matter_in g)
+    → StopsAskingBy (script_of g) (questions_of g) lines cut old new error → StopsBy g lines cut old new error
+by-in g lines cut old new WriteFault stand by = by
+by-in g lines cut old new (TooLarge what) stand by =
+    (by.0, (by.1.0, line-in g lines by.1.0 stand by.1.1.0 by.1.1.1, passes-in g (lines ++ by.1.0 ∷ []) what by.1.2))
+by-in g lines cut old new NoMemory stand by = tt
+by-in g lines cut old new ReadFault stand by = by
+
+stops-in : (g : Setting) (before : List CertRecord) (old new : DeskView) (error : WorkError) → ModelsStand (matter_in g)
+    → AreWritten g before → StopsAsking (script_of g) (questions_of g) before old new error → Stops g before old new error
+stops-in g before old new error stand written stops = record {
+  added = stops.added;
+  cut = stops.cut;
+  written = record {
+    next = next-join g [] before stops.added written.next (all-in g before stops.added stand stops.next stops.asked);
+    within = stops.written;
+  };
+  grew = stops.grew;
+  cut_off = cut-in g (before ++ stops.added) stops.cut stand stops.cut_off;
+  by = by-in g (before ++ stops.added) stops.cut old new error stand stops.by;
 }
 
--- the same view
-pub at-view : (g : Setting) (before : List CertRecord) (t s : AskerView) → t ≡ s → IsAt g before s → IsAt g before t
-at-view g before t s is at = subst (λ v. IsAt g before v) (sym is) at
+-- what is kept, apart from which lines may come
+at-in : (g : Setting) (before : List CertRecord) (a : AskerView) → IsAt g before a → StandsAt (script_of g) before a
+at-in g before a at = record { log = at.log; writer = stands-behind g before a.writer at.writer }
 
--- the own line of the question may come next
-pub question-next : (g : Setting) (before : List CertRecord) (question : List Word) (t : AskerView) → t.log.variables < 2 ^ 32 → IsOver t.log.variables question
-    → IsAt g before t
-    → IsNextQuestion (matter_in g) g.header before question → IsLine (matter_in g) g.header before (Question question)
-question-next g before question t fits over at next =
-    question-line g before question (omega (arith, fits, at.log.variables)) at.log.not_ended
-    (subst (λ n. IsOver n question) at.log.variables over) next
-
-may-derive : (g : Setting) (before : List CertRecord) (question : List Word) (t : AskerView) (w : WriterView) → t.log.variables < 2 ^ 32
-    → IsOver t.log.variables question → PutMore t.writer w (Question question)
-    → IsAt g before t → IsNextQuestion (matter_in g) g.header before question → MayDerive g before question t.log t.limit w
-may-derive g before question t w fits over more at next =
-    record {
-      log_at = at.log;
-      writer = more g before at.writer (question-next g before question t fits over at next)
-          (keeps-same g.limits before (Question question) refl at.writer.written.kept);
-    }
-
--- ---- where it stops
-
-pub stops-before : BeginsLaw → (s : AskerView) (question : List Word) (first : DeskView) → AskStops s question first first NoMemory
-stops-before begins s question first g before at next = stops-for-memory g before s.writer first first at.writer (begins first)
-
-pub stops-at-question : (t s : AskerView) (question : List Word) (first last : DeskView) (error : WorkError) → t ≡ s → t.log.variables < 2 ^ 32
-    → IsOver t.log.variables question
-    → PutStops t.writer (Question question) first last error → AskStops s question first last error
-stops-at-question t s question first last error is fits over stops g before at next =
-    let here = at-view g before t s is at in stops g before here.writer (question-next g before question t fits over here next)
-
-pub stops-while-derived : TwiceLaw → (t s : AskerView) (question : List Word) (first mid last : DeskView) (w : WriterView) (error : WorkError) → t ≡ s
-    → t.log.variables < 2 ^ 32 → IsOver t.log.variables question
-    → FileGrew (ended (record_text (Question question))) first mid → PutMore t.writer w (Question question)
-    → DerivesNone t.log (clause_of question) t.limit mid last w error → AskStops s question first last error
-stops-while-derived twice t s question first mid last w error is fits over grew more none g before at next =
-    let here = at-view g before t s is at in
-    stops-after twice g before (Question question ∷ []) first mid last error
-    (subst (λ bytes. FileGrew bytes first mid) (sym (one-line (Question question))) grew)
-    (none g before question refl (may-derive g before question t w fits over more here next))
-
-pub stops-at-answer : TwiceLaw → (t s : AskerView) (after : ClauseLog) (question : List Word) (first mid later last : DeskView) (w behind : WriterView)
-    (answer : Answer) (error : WorkError) → t ≡ s → t.log.variables < 2 ^ 32
-    → IsOver t.log.variables question → FileGrew (ended (record_text (Question question))) first mid → PutMore t.writer w (Question question)
-    → Derives t.log after (clause_of question) t.limit mid later w behind answer → PutStops behind (closing_line answer) later last error
-    → AskStops s question first last error
-stops-at-answer twice t s after question first mid later last w behind answer error is fits over grew more derives stops g before at next =
-    let here = at-view g before t s is at in
-    let d = derives g before question refl (may-derive g before question t w fits over more here next) in
-    stops-after twice g before (Question question ∷ d.between) first later last error
-    (twice (ended (record_text (Question question))) (lines_text d.between) first mid later grew d.grew)
-    (stops g (before ++ Question question ∷ d.between) d.writer d.closing)
+pub ask-stops-in : (old new : DeskView) (a : AskerView) (question : List Word) (error : WorkError) → AskedStops a question old new error
+    → AskStops a question old new error
+ask-stops-in old new a question error stops g before at next =
+    stops-in g before old new error at.stand at.writer.written
+    (stops-asking (script_of g) (questions_of g) before question old new error next (stops (script_of g) before (at-in g before a at)))
 
 -- ---- what was asked
 
@@ -102,67 +146,36 @@ reply-line (answers.Refuted hints) reply is = absurd is
 reply-line answers.Undecided replies.Undecided is = refl
 reply-line answers.Undecided reply is = absurd is
 
-pub reply-holds : (n : ℕ) (question : List Word) (old new : ClauseLog) (limit : ℕ) (answer : Answer) (reply : Reply) → old.variables ≡ n
-    → IsAnswer old new (clause_of question) limit (Ok answer)
-    → IsReplyOf answer reply → Holds n question reply
-reply-holds n question old new limit (answers.Found values) (replies.Found told) size answered is =
-    (ap length is ∙ answered.variables ∙ size, subst (λ (v : List Bool). All (IsTrueLiteral (value_of v)) (clause_of question)) (sym is) answered.assumed)
-reply-holds n question old new limit (answers.Found values) reply size answered is = absurd is
-reply-holds n question old new limit (answers.Refuted hints) replies.Refuted size answered is = tt
-reply-holds n question old new limit (answers.Refuted hints) reply size answered is = absurd is
-reply-holds n question old new limit answers.Undecided replies.Undecided size answered is = tt
-reply-holds n question old new limit answers.Undecided reply size answered is = absurd is
+pub reply-holds : (n : ℕ) (question : List Word) (answer : Answer) (reply : Reply) → AnswerHolds n question answer → IsReplyOf answer reply
+    → Holds n question reply
+reply-holds n question (answers.Found values) (replies.Found told) holds is = subst (λ (v : List Bool). Holds n question (replies.Found v)) (sym is) holds
+reply-holds n question (answers.Found values) reply holds is = absurd is
+reply-holds n question (answers.Refuted hints) replies.Refuted holds is = tt
+reply-holds n question (answers.Refuted hints) reply holds is = absurd is
+reply-holds n question answers.Undecided replies.Undecided holds is = tt
+reply-holds n question answers.Undecided reply holds is = absurd is
 
--- the line of an answer is no derived line and no end
-no-clause : (answer : Answer) → derived_in (closing_line answer) ≡ []
-no-clause (answers.Found values) = refl
-no-clause (answers.Refuted hints) = refl
-no-clause answers.Undecided = refl
-
-no-end : (answer : Answer) → list_any is_end (closing_line answer ∷ []) ≡ false
-no-end (answers.Found values) = refl
-no-end (answers.Refuted hints) = refl
-no-end answers.Undecided = refl
-
-log-closed : (g : Setting) (before : List CertRecord) (log : ClauseLog) (limit : ℕ) (answer : Answer) → IsLogAt g before log limit
-    → IsLogAt g (before ++ closing_line answer ∷ []) log limit
-log-closed g before log limit answer at = record {
-  limit_is = at.limit_is;
-  stand = at.stand;
-  clauses = at.clauses ∙ ap (λ (cs : List (List Literal)). (matter_in g).inputs ++ cs)
-      (sym (derived-append before (closing_line answer ∷ []) ∙ ap (λ (cs : List (List Literal)). derived before ++ (cs ++ [])) (no-clause answer)
-      ∙ append-nil (derived before)));
-  inputs = at.inputs;
-  variables = at.variables;
-  line_limit = at.line_limit;
-  line_literal_limit = at.line_literal_limit;
-  not_ended = none-ended before (closing_line answer ∷ []) at.not_ended (no-end answer);
-}
-
-pub asked : TwiceLaw → (t s : AskerView) (after : ClauseLog) (question : List Word) (first mid later last : DeskView) (w behind ends : WriterView)
-    (answer : Answer) (reply : Reply) → t ≡ s → t.log.variables < 2 ^ 32
-    → IsOver t.log.variables question → FileGrew (ended (record_text (Question question))) first mid → PutMore t.writer w (Question question)
-    → Derives t.log after (clause_of question) t.limit mid later w behind answer → FileGrew (ended (record_text (closing_line answer))) later last
-    → PutMore behind ends (closing_line answer) → IsReplyOf answer reply
-    → (g : Setting) (before : List CertRecord) → IsAt g before s → IsNextQuestion (matter_in g) g.header before question
-    → IsAsked g before question first last (record { log = after; writer = ends; limit = t.limit }) reply
-asked twice t s after question first mid later last w behind ends answer reply is fits over grew more derives closed put replied g before at next =
-    let here = at-view g before t s is at in
-    let d = derives g before question refl (may-derive g before question t w fits over more here next) in
-    let place = append_assoc before (Question question ∷ d.between) (closing_line answer ∷ []) in
-    let bytes = ap (λ (text : List ℕ). ended (record_text (Question question)) ++ text)
-    (sym (lines-more d.between (closing_line answer ∷ []) ∙ ap (λ (text : List ℕ). lines_text d.between ++ text) (one-line (closing_line answer)))) in
+pub ask-more-in : (old new : DeskView) (a b : AskerView) (question : List Word) (answer : Answer) (reply : Reply)
+    → AskedMore old new a b question answer → IsReplyOf answer reply → AskMore old new a b question reply
+ask-more-in old new a b question answer reply more is g before at next =
+    let x = more (script_of g) before (at-in g before a at) in
+    let lines : List CertRecord = question_lines question x.between (closing_line answer) in
     record {
-      between = d.between;
-      only_derived = d.only_derived;
+      between = x.between;
+      only_derived = x.only_derived;
       answer = closing_line answer;
-      is_answer = reply-line answer reply replied;
-      grew = subst (λ text. FileGrew text first last) bytes (twice (ended (record_text (Question question)))
-          (lines_text d.between ++ ended (record_text (closing_line answer))) first mid last grew
-          (twice (lines_text d.between) (ended (record_text (closing_line answer))) mid later last d.grew closed));
+      is_answer = reply-line answer reply is;
+      grew = x.grew;
       at = record {
-        log = subst (λ ls. IsLogAt g ls after t.limit) place (log-closed g (before ++ Question question ∷ d.between) after t.limit answer d.log_at);
-        writer = subst (λ ls. IsWriter g ls ends) place (put g (before ++ Question question ∷ d.between) d.writer d.closing
-            (keeps-same g.limits (before ++ Question question ∷ d.between) (closing_line answer) (no-clause answer) d.writer.written.kept));
+        log = x.at.log;
+        writer = record {
+          written = record {
+            next = next-join g [] before lines at.writer.written.next
+                (all-in g before lines at.stand x.next (question-asked (questions_of g) before question x.between answer next x.only_derived));
+            within = x.at.writer.written;
+          };
+          stands = x.at.writer.stands;
+        };
+        stand = at.stand;
       };
     }

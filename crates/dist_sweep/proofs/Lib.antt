@@ -1,13 +1,5 @@
-mod Lists
 mod Later
-mod Opened
-mod Lines
-mod OneLine
-mod DerivedLines
-mod Answered
-mod Closing
 mod Asked
-mod FirstLine
 mod SweepLines
 mod Parts
 mod SweptFile

@@ -29,11 +29,11 @@ use Rattle.dist_subject.specs.Certificates.{certificates_of}
 use Rattle.dist_subject.specs.Completed.{IsCompleted}
 use Rattle.dist_subject.specs.Basis.{Basis, IsBasisOf, matter_of}
 use Rattle.dist_subject.specs.Limited.{AreInputsWithin}
+use Rattle.dist_line_write.specs.LineLaws.{contains-last}
+use Rattle.dist_line_write.specs.ScriptLaws.{text-push}
 use Rattle.dist_sweep.specs.Script.{AllNext, AreWritten, IsCutOff, IsPassed, Setting, matter_in}
-use Rattle.dist_sweep.specs.Sweep.{IsCutSweep, IsFull, IsSweep}
 use Rattle.dist_sweep.specs.Sweeping.{setting_of}
-use Rattle.dist_sweep.specs.LineLaws.{contains-last}
-use Rattle.dist_sweep.proofs.OneLine.{certificate-push}
+use Rattle.dist_sweep.specs.Sweep.{IsCutSweep, IsFull, IsSweep}
 
 -- ---- lines one after another
 
@@ -59,13 +59,13 @@ with-last g before (s ∷ steps) step all short line = (
 
 -- no number is passed by what is written
 not-passed : (g : Setting) (lines : List CertRecord) (what : What) → AreWritten g lines → ¬ Passes g.limits g.header lines what
-not-passed g lines Lines written passes = omega (arith, written.kept.count, passes)
-not-passed g lines LineLiterals written passes = omega (arith, written.kept.literals, passes)
+not-passed g lines Lines written passes = omega (arith, written.within.kept.count, passes)
+not-passed g lines LineLiterals written passes = omega (arith, written.within.kept.literals, passes)
 not-passed g lines RecordLine written passes = ⊎_elim
-    (λ first. omega (arith, written.header_short, first, length-append (header_text g.header) (10 ∷ [])))
-    (λ any. let short = written.short any.0 any.1 any.2 in let size = length-append (record_text any.1) (10 ∷ []) in
+    (λ first. omega (arith, written.within.first_short, first, length-append (header_text g.header) (10 ∷ [])))
+    (λ any. let short = written.within.short any.0 any.1 any.2 in let size = length-append (record_text any.1) (10 ∷ []) in
     omega (arith, short, size, ap (λ (s : CertRecord). length (record_text s)) any.3, any.4)) passes
-not-passed g lines Certificate written passes = omega (arith, written.bytes, passes)
+not-passed g lines Certificate written passes = omega (arith, written.within.bytes, passes)
 not-passed g lines what written passes = passes
 
 -- ---- one reading
@@ -124,8 +124,8 @@ part-of : (r : PackageList) (kind : CertKind) (essential : Bool) (limit : ℕ) (
     (certificate_text (setting_of r kind essential limit limits basis).header lines) lines
 part-of r kind essential limit limits basis is lines written =
     let g = setting_of r kind essential limit limits basis in
-    part_by_records is.clear (matter_of r basis) limits g.header lines is.header (λ some. written.header_short)
-    (are-lines g [] lines written.next written.short)
+    part_by_records is.clear (matter_of r basis) limits g.header lines is.header (λ some. written.within.first_short)
+    (are-lines g [] lines written.next written.within.short)
 
 part-with : (r : PackageList) (kind : CertKind) (essential : Bool) (limit : ℕ) (limits : Limits) (basis : Basis) → IsSet r kind essential limit limits basis
     → (lines : List CertRecord) (step : CertRecord)
@@ -135,9 +135,9 @@ part-with : (r : PackageList) (kind : CertKind) (essential : Bool) (limit : ℕ)
     (certificate_text (setting_of r kind essential limit limits basis).header lines ++ ended (record_text step)) (lines ++ step ∷ [])
 part-with r kind essential limit limits basis is lines step written line =
     let g = setting_of r kind essential limit limits basis in
-    subst (λ (text : List ℕ). IsPartOf (matter_of r basis) limits g.header text (lines ++ step ∷ [])) (certificate-push g.header lines step)
-    (part_by_records is.clear (matter_of r basis) limits g.header (lines ++ step ∷ []) is.header (λ some. written.header_short)
-    (with-last g [] lines step written.next written.short line))
+    subst (λ (text : List ℕ). IsPartOf (matter_of r basis) limits g.header text (lines ++ step ∷ [])) (text-push (header_text g.header) lines step)
+    (part_by_records is.clear (matter_of r basis) limits g.header (lines ++ step ∷ []) is.header (λ some. written.within.first_short)
+    (with-last g [] lines step written.next written.within.short line))
 
 -- one line more would pass a number
 pub full : (r : PackageList) (kind : CertKind) (essential : Bool) (limit : ℕ) (limits : Limits) (basis : Basis) → IsSet r kind essential limit limits basis
@@ -252,9 +252,10 @@ pub whole : (r : PackageList) (kind : CertKind) (essential : Bool) (limit : ℕ)
 whole r kind essential limit limits basis is kept lines written =
     let g = setting_of r kind essential limit limits basis in
     let steps : List CertRecord = lines ++ End ∷ [] in
-    let sound : IsSoundHeader (matter_of r basis) limits g.header = record { form = is.header.form; fits = is.header.fits; short = written.header_short } in
+    let sound : IsSoundHeader (matter_of r basis) limits g.header = record { form = is.header.form; fits = is.header.fits; short = written.within.first_short }
+    in
     let all : AreSound limits (matter_in g) g.header [] steps =
-    sound_by_lines limits (matter_in g) g.header [] steps (are-lines g [] steps written.next written.short) written.short in
+    sound_by_lines limits (matter_in g) g.header [] steps (are-lines g [] steps written.next written.within.short) written.within.short in
     let accepted = subst (λ (text : List ℕ). Accepted (matter_of r basis) limits text g.header (claims_in steps))
     (append-nil (certificate_text g.header steps))
     (accepted_by_records is.clear (matter_of r basis) limits g.header steps sound all (contains-last lines End)) in
@@ -268,9 +269,9 @@ whole r kind essential limit limits basis is kept lines written =
       numbers = subst (λ (ls : List CertRecord). KeepsNumbers (certificates_of r) limits basis g.header ls) (sym same)
           (record {
             inputs = kept;
-            derived_lines = written.kept.count;
-            line_literals = written.kept.literals;
-            bytes = written.bytes;
+            derived_lines = written.within.kept.count;
+            line_literals = written.within.kept.literals;
+            bytes = written.within.bytes;
           });
     } in
     (basis, is.is_basis, (completed, inr (steps, part-of r kind essential limit limits basis is steps written)))

@@ -15,11 +15,12 @@ use Rattle.dist_cert.specs.declared.records.Header.{Header}
 use Rattle.dist_subject.specs.Basis.{Basis, IsBasisOf, matter_of}
 use Rattle.dist_subject.specs.Inputs.{AreInputsOf}
 use Rattle.dist_subject.specs.Installed.{AreModelsHealthy}
-use Rattle.dist_sweep.specs.Asking.{AskerView}
-use Rattle.dist_sweep.specs.Claiming.{Keeping}
+use Rattle.dist_line_write.specs.Asking.{AskerView}
+use Rattle.dist_line_write.specs.Script.{new_writer}
 use Rattle.dist_sweep.specs.Script.{Setting}
+use Rattle.dist_sweep.specs.Sweeping.{Begins, MayBegin, first_header, new_window, setting_of}
+use Rattle.dist_sweep.specs.Claiming.{Keeping}
 use Rattle.dist_sweep.specs.Sweep.{header_of}
-use Rattle.dist_sweep.specs.Sweeping.{Begins, MayBegin, first_header, new_window, new_writer, setting_of}
 use Rattle.dist_sweep.specs.declared.sweep.SweepInputs.{SweepInputs}
 
 -- the law of dist_subject on models
@@ -104,7 +105,6 @@ module _ {C : Type 0} (Keeps : Keeping C) (healthy : HealthyLaw) (r : PackageLis
     packages = refl;
     log = record {
       limit_is = refl;
-      stand = (healthy r over.kind over.essential basis ordered inputs.is_basis).stand;
       clauses = inputs.clauses ∙ sym (append-nil (matter_of r basis).inputs);
       inputs = same-count;
       variables = inputs.variables;
@@ -112,6 +112,7 @@ module _ {C : Type 0} (Keeps : Keeping C) (healthy : HealthyLaw) (r : PackageLis
       line_literal_limit = refl;
       not_ended = refl;
     };
+    stand = (healthy r over.kind over.essential basis ordered inputs.is_basis).stand;
     writer = refl;
     window = record { kept = refl; count = refl; sizes = All-nil (λ values. length values ≡ over.clauses.variables) };
     keeps = keeps;

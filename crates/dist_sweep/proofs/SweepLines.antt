@@ -20,17 +20,19 @@ use Rattle.dist_cert.specs.LineRules.{HasRecordFault}
 use Rattle.dist_cert.specs.PartByRecordsLaws.{IsLine}
 use Rattle.dist_cert.specs.FileLines.{lines_text}
 use Rattle.dist_cert.specs.Refusal.{certificate_text}
-use Rattle.dist_cert.specs.Writing.{ended}
-use Rattle.dist_sweep.specs.Asking.{AskerView, IsAt}
+use Rattle.dist_cert.specs.Writing.{WriterView, ended}
+use Rattle.dist_line_write.specs.Asking.{AskerView}
+use Rattle.dist_line_write.specs.LineLaws.{no-future, keeps-same, none-in}
+use Rattle.dist_line_write.specs.Script.{FirstMore, FirstStops, PutMore, PutStops, StopsIn, new_writer}
+use Rattle.dist_line_write.specs.ScriptLaws.{BeginsLaw, TwiceLaw, lines-more, text-push}
+use Rattle.dist_sweep.specs.Asking.{IsAt}
+use Rattle.dist_sweep.specs.Script.{IsWriter, Setting, Stops, matter_in, script_of}
+use Rattle.dist_sweep.specs.ScriptLaws.{by-later, put-behind, put-stopped, stops-after, stops-for-memory}
+use Rattle.dist_sweep.specs.Sweeping.{AreClaimed, Begins, StartsClaims, ClaimsMore, ClaimsStop}
+use Rattle.dist_sweep.specs.Sweeping.{StopsLater, SweepMore, SweepStops}
 use Rattle.dist_sweep.specs.Claiming.{ClaimMore, ClaimStops, Keeping, MayClaim}
-use Rattle.dist_sweep.specs.Script.{PutMore, PutStops, Setting, Stops, matter_in}
-use Rattle.dist_sweep.specs.Sweeping.{AreClaimed, Begins, StartsClaims, ClaimsMore, ClaimsStop, HeaderMore}
-use Rattle.dist_sweep.specs.Sweeping.{HeaderStops, StopsLater, SweepMore, SweepStops}
 use Rattle.dist_sweep.specs.Window.{WindowView}
 use Rattle.dist_sweep.specs.QuestionLinesLaws.{claims-push}
-use Rattle.dist_sweep.specs.LineLaws.{no-future, keeps-same, none-in}
-use Rattle.dist_sweep.specs.ScriptLaws.{BeginsLaw, TwiceLaw, by-later, lines-more, stops-after, stops-for-memory}
-use Rattle.dist_sweep.proofs.OneLine.{certificate-push}
 use Rattle.dist_cert.specs.declared.faults.CertCause.TheVariants as causes
 
 -- ---- claim by claim
@@ -109,11 +111,22 @@ end-line g before going count = record {
 abbrev pub first-swept : {C : Type 0} → Keeping C → Header → AskerView → AskerView → WindowView → C → Type 0
 first-swept Keeps header a b w c = (g : Setting) → Begins Keeps g header a w c → StartsClaims Keeps g header.packages b w c
 
+-- the writer behind the first line
+first-behind : (g : Setting) (header : Header) (w after : WriterView) → FirstMore w after (header_text header) → header ≡ g.header
+    → w ≡ new_writer g.limits → IsWriter g [] after
+first-behind g header w after more is nothing =
+    let first = more (script_of g) (ap (λ (h : Header). header_text h) is) nothing in
+    record { written = record { next = tt; within = first.written }; stands = first.stands }
+
 pub header-swept : {C : Type 0} (Keeps : Keeping C) (header : Header) (a b : AskerView) (w : WindowView) (c : C) → b ≡ record a { writer = b.writer }
-    → HeaderMore a.writer b.writer header → first-swept Keeps header a b w c
+    → FirstMore a.writer b.writer (header_text header) → first-swept Keeps header a b w c
 header-swept Keeps header a b w c rest more g begins = record {
   swept = record {
-    at = subst (λ (v : AskerView). IsAt g [] v) (sym rest) (record { log = begins.log; writer = more g begins.header_is begins.writer });
+    at = subst (λ (v : AskerView). IsAt g [] v) (sym rest) (record {
+      log = begins.log;
+      writer = first-behind g header a.writer b.writer more begins.header_is begins.writer;
+      stand = begins.stand;
+    });
     window = begins.window;
     no_group = refl;
   };
@@ -139,8 +152,10 @@ later twice g old mid new error grew stops = record {
 }
 
 pub sweep-first : {C : Type 0} (Keeps : Keeping C) (header : Header) (old new : DeskView) (a : AskerView) (w : WindowView) (c : C) (error : WorkError)
-    → HeaderStops a.writer header old new error → SweepStops Keeps header old new a w c error
-sweep-first Keeps header old new a w c error stops g begins = inl (stops g begins.header_is begins.writer)
+    → FirstStops a.writer (header_text header) old new error → SweepStops Keeps header old new a w c error
+sweep-first Keeps header old new a w c error stops g begins =
+    inl (subst (λ (h : Header). StopsIn (script_of g) (header_text h) [] old new error) begins.header_is
+    (stops (script_of g) (ap (λ (h : Header). header_text h) begins.header_is) begins.writer))
 
 pub sweep-later : {C : Type 0} (Keeps : Keeping C) → TwiceLaw → (header : Header) (old mid new : DeskView) (a b : AskerView) (w : WindowView) (c : C)
     (error : WorkError) → first-swept Keeps header a b w c
@@ -165,7 +180,8 @@ sweep-end-stops Keeps twice header old mid late new a b d w v c e made error fir
     let x = more g starts in
     inr (later twice g old mid new error (subst (λ (h : Header). FileGrew (ended (header_text h)) old mid) begins.header_is grew)
     (stops-after twice g [] x.lines mid late new error x.grew
-    (stops g x.lines x.swept.at.writer (end-next Keeps g header.packages mid late b d w v c e made starts count x))))
+    (put-stopped g x.lines End d.writer late new error stops x.swept.at.writer
+    (end-next Keeps g header.packages mid late b d w v c e made starts count x))))
 
 pub sweep-whole : {C : Type 0} (Keeps : Keeping C) → TwiceLaw → (header : Header) (old mid late new : DeskView) (a b d e : AskerView) (w v : WindowView)
     (c f : C) (made : List Claim) → first-swept Keeps header a b w c → FileGrew (ended (header_text header)) old mid
@@ -175,13 +191,15 @@ pub sweep-whole : {C : Type 0} (Keeps : Keeping C) → TwiceLaw → (header : He
 sweep-whole Keeps twice header old mid late new a b d e w v c f made first grew more count last put g begins =
     let starts = first g begins in
     let x = more g starts in
-    let behind = put g x.lines x.swept.at.writer (end-next Keeps g header.packages mid late b d w v c f made starts count x)
-    (keeps-same g.limits x.lines End refl x.swept.at.writer.written.kept) in
+    let behind = put-behind g x.lines End d.writer e.writer put x.swept.at.writer
+    (end-next Keeps g header.packages mid late b d w v c f made starts count x)
+    (keeps-same g.limits x.lines End refl x.swept.at.writer.written.within.kept) in
     let start = subst (λ (h : Header). FileGrew (ended (header_text h)) old mid) begins.header_is grew in
     record {
       lines = x.lines;
       written = behind.written;
-      grew = subst (λ bytes. FileGrew bytes old new) (header-joined g.header x.lines (ended (record_text End)) ∙ sym (certificate-push g.header x.lines End))
+      grew = subst (λ bytes. FileGrew bytes old new) (header-joined g.header x.lines (ended (record_text End)) ∙ sym (text-push (header_text g.header) x.lines
+          End))
           (twice (ended (header_text g.header)) (lines_text x.lines ++ ended (record_text End)) old mid new start
           (twice (lines_text x.lines) (ended (record_text End)) mid late new x.grew last));
       claims = claims-push x.lines End ∙ append-nil (claims_in x.lines) ∙ x.claims;

@@ -15,12 +15,17 @@ use Rattle.dist_cert.specs.declared.records.CertRecord.TheVariants.{End}
 use Rattle.dist_cert.specs.declared.records.Claim.{Claim}
 use Rattle.dist_cert.specs.declared.records.Header.{Header}
 use Rattle.dist_cert.specs.ClearFormsLaws.{FormsAreClear}
+use Rattle.dist_cert.specs.Form.{header_text}
 use Rattle.dist_cert.specs.Refusal.{certificate_text}
-use Rattle.dist_sweep.specs.Asking.{AskerView}
+use Rattle.dist_line_write.specs.Script.{StopsIn}
+use Rattle.dist_sweep.specs.Script.{script_of}
+use Rattle.dist_sweep.specs.ScriptLaws.{passes-in}
+use Rattle.dist_line_write.specs.Asking.{AskerView}
+use Rattle.dist_line_write.specs.ScriptLaws.{rose-later}
+use Rattle.dist_sweep.specs.Sweeping.{FileAnswers, MayBegin, StopsLater, SweepMore, SweepStops, new_window}
+use Rattle.dist_sweep.specs.Sweeping.{setting_of}
 use Rattle.dist_sweep.specs.Sweep.{IsCutSweep, IsSweep, LeavesPart, SweepAnswers}
-use Rattle.dist_sweep.specs.Sweeping.{FileAnswers, MayBegin, StopsFirst, StopsLater, SweepMore, SweepStops, new_window, setting_of}
 use Rattle.dist_sweep.specs.Claiming.{Keeping}
-use Rattle.dist_sweep.specs.ScriptLaws.{rose-later}
 use Rattle.dist_sweep.proofs.Parts.{IsSet, cut-behind, cut-first, cut-nothing, first-full, full, whole}
 
 -- the laws of dist_outside
@@ -65,7 +70,8 @@ rose-within name text old mid late new done grew rose =
 
 stopped-first : (r : PackageList) (kind : CertKind) (essential : Bool) (limit : ℕ) (limits : Limits) (basis : Basis) (name : List ℕ)
     (old mid late new : DeskView) (error : WorkError) → IsSet r kind essential limit limits basis
-    → IsDone name old mid late new → StopsFirst (setting_of r kind essential limit limits basis) mid late error
+    → IsDone name old mid late new → StopsIn (script_of (setting_of r kind essential limit limits basis))
+    (header_text (setting_of r kind essential limit limits basis).header) [] mid late error
     → SweepAnswers r kind essential limit limits name old new (Err error)
 stopped-first r kind essential limit limits basis name old mid late new WriteFault is done stops = (
   rose-within name stops.cut old mid late new done stops.grew stops.by,
@@ -82,7 +88,7 @@ stopped-first r kind essential limit limits basis name old mid late new (TooLarg
 stopped-first r kind essential limit limits basis name old mid late new (TooLarge what) is done stops = (
   [],
   holds name [] old mid late new done (subst (λ (text : List ℕ). FileGrew text mid late) stops.by.0 stops.grew),
-  first-full r kind essential limit limits basis is what stops.by.1,
+  first-full r kind essential limit limits basis is what (passes-in (setting_of r kind essential limit limits basis) [] what stops.by.1),
 )
 
 stopped-later : (r : PackageList) (kind : CertKind) (essential : Bool) (limit : ℕ) (limits : Limits) (basis : Basis) (name : List ℕ)

@@ -13,14 +13,17 @@ use Rattle.dist_cert.specs.Groups.{installed_in, is_claim}
 use Rattle.dist_cert.specs.Part.{IsNextQuestion}
 use Rattle.dist_cert.specs.PartByRecordsLaws.{IsLine}
 use Rattle.dist_cert.specs.Writing.{ended}
-use Rattle.dist_sweep.specs.Asking.{AskerView, AskMore, AskStops, IsAsked, IsAt, question_lines}
+use Rattle.dist_line_write.specs.Asking.{AskerView, question_lines}
+use Rattle.dist_line_write.specs.Script.{PutMore, PutStops}
+use Rattle.dist_line_write.specs.ScriptLaws.{BeginsLaw, TwiceLaw}
+use Rattle.dist_sweep.specs.Asking.{AskMore, AskStops, IsAsked, IsAt}
+use Rattle.dist_sweep.specs.Script.{Setting, Stops, matter_in}
+use Rattle.dist_sweep.specs.ScriptLaws.{put-stopped, stops-after, stops-for-memory}
 use Rattle.dist_sweep.specs.Claiming.{IsClaimed}
 use Rattle.dist_sweep.specs.ClaimLinesLaws.{IsClaimLine, claim-after, put-claimed}
 use Rattle.dist_sweep.specs.QuestionLinesLaws.{AreAsked, question-claims, reply-line}
-use Rattle.dist_sweep.specs.Script.{Setting, PutMore, PutStops, Stops, matter_in}
-use Rattle.dist_sweep.specs.ScriptLaws.{BeginsLaw, TwiceLaw, stops-after, stops-for-memory}
 use Rattle.dist_sweep.specs.Window.{IsWindowAt, WindowView}
-use Rattle.dist_sweep.specs.declared.asker.Reply.{Reply}
+use Rattle.dist_sweep.specs.declared.asking.Reply.{Reply}
 
 -- what is known of the lines so far
 abbrev pub Known : Type 1
@@ -129,7 +132,7 @@ pub put-stops : (P Kept : Known) (old new : DeskView) (a : AskerView) (w : Windo
     (error : WorkError) → Stands P a
     → PutsFrom P w Kept step → PutStops a.writer step old new error → StopsFrom P old new error
 put-stops P Kept old new a w step error stands puts stops g before known =
-    stops g before (stands g before known).writer (puts g before known).line
+    put-stopped g before step a.writer old new error stops (stands g before known).writer (puts g before known).line
 
 -- behind the lines of a question
 abbrev pub PutsBehind : Known → List Word → DeskView → DeskView → AskerView → Reply → WindowView → Known → CertRecord
@@ -163,7 +166,8 @@ stops-behind P Kept old mid new b w question told step error twice asked puts st
     let x = asked g before known in
     let y = puts g before known x in
     stops-after twice g before (question_lines question x.between x.answer) old mid new error x.grew
-    (stops g (before ++ question_lines question x.between x.answer) x.at.writer y.line)
+    (put-stopped g (before ++ question_lines question x.between x.answer) step b.writer mid new error stops x.at.writer
+    y.line)
 
 pub nothing-in : (step : CertRecord) → ¬ Contains [] step
 nothing-in step there = omega (arith, there.1)

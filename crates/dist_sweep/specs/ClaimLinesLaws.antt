@@ -15,9 +15,14 @@ use Rattle.dist_cert.specs.Form.{IsSmall, is_end, plain, record_text}
 use Rattle.dist_cert.specs.Groups.{claim_count, installations, claimed, derived, derived_in, installed_in, is_claim}
 use Rattle.dist_cert.specs.LineRules.{HasRecordFault}
 use Rattle.dist_cert.specs.PartByRecordsLaws.{IsLine}
-use Rattle.dist_sweep.specs.Script.{Setting, matter_in, PutMore}
+use Rattle.dist_line_write.specs.Asking.{AskerView}
+use Rattle.dist_line_write.specs.LineLaws.{none-in, derived-append, none-ended, keeps-same, no-future}
+use Rattle.dist_line_write.specs.Script.{PutMore}
+use Rattle.dist_line_write.specs.ScriptLaws.{one-line, TwiceLaw, lines-more}
+use Rattle.dist_sweep.specs.Asking.{IsAt}
+use Rattle.dist_sweep.specs.Script.{Setting, matter_in}
+use Rattle.dist_sweep.specs.ScriptLaws.{put-behind}
 use Rattle.dist_sweep.specs.Window.{WindowView, IsWindowAt}
-use Rattle.dist_sweep.specs.LineLaws.{none-in, derived-append, none-ended, keeps-same, no-future}
 use Rattle.std.proofs.lemmas.Grind.{flat_map-append}
 use Rattle.circular_buffer.specs.Buffer.{keep_last}
 use Rattle.dist_outside.specs.DeskView.{DeskView, FileGrew}
@@ -25,10 +30,8 @@ use Rattle.dist_cert.specs.declared.records.Claim.{Claim}
 use Rattle.dist_cert.specs.Accepted.{claim_in, claims_in}
 use Rattle.dist_cert.specs.GroupLaws.{group-claim, installations-append, count-append}
 use Rattle.dist_cert.specs.Writing.{ended}
-use Rattle.dist_sweep.specs.Asking.{AskerView, IsAt}
 use Rattle.dist_sweep.specs.Claiming.{IsClaimed, IsSwept}
 use Rattle.dist_sweep.specs.QuestionLinesLaws.{claims-push, claims-append}
-use Rattle.dist_sweep.specs.ScriptLaws.{one-line, TwiceLaw, lines-more}
 use Rattle.dist_cert.specs.FileLines.{lines_text}
 use Rattle.dist_cert.specs.declared.faults.CertCause.TheVariants as causes
 
@@ -112,7 +115,6 @@ put-claimed g before old new a b w Kept step claim at window kind line is rest g
     at = subst (λ (v : AskerView). IsAt g (before ++ step ∷ []) v) (sym rest) (record {
       log = record {
         limit_is = at.log.limit_is;
-        stand = at.log.stand;
         clauses = at.log.clauses ∙ ap (λ (cs : List (List Literal)). (matter_in g).inputs ++ cs)
             (sym (derived-append before (step ∷ []) ∙ ap (λ (cs : List (List Literal)). derived before ++ (cs
             ++ []))
@@ -124,7 +126,9 @@ put-claimed g before old new a b w Kept step claim at window kind line is rest g
         line_literal_limit = at.log.line_literal_limit;
         not_ended = none-ended before (step ∷ []) at.log.not_ended (ap (λ (e : Bool). e || false) kind.no_end);
       };
-      writer = more g before at.writer line (keeps-same g.limits before step kind.no_clause at.writer.written.kept);
+      writer = put-behind g before step a.writer b.writer more at.writer line
+          (keeps-same g.limits before step kind.no_clause at.writer.written.within.kept);
+      stand = at.stand;
     });
     window = record {
       kept = window.kept ∙ ap (λ (ms : List (List ℕ)). keep_last REACH ms) (sym same);

@@ -7,7 +7,8 @@ use Rattle.dist_cert.specs.declared.records.Claim.{Claim}
 use Rattle.dist_cert.specs.Accepted.{claims_in}
 use Rattle.dist_cert.specs.Groups.{claim_count, group}
 use Rattle.dist_cert.specs.FileLines.{lines_text}
-use Rattle.dist_sweep.specs.Asking.{AskerView, IsAt}
+use Rattle.dist_line_write.specs.Asking.{AskerView}
+use Rattle.dist_sweep.specs.Asking.{IsAt}
 use Rattle.dist_sweep.specs.Script.{Setting, Stops, matter_in}
 use Rattle.dist_sweep.specs.Window.{WindowView, IsWindowAt}
 

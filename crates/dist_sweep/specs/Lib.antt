@@ -1,12 +1,9 @@
-pub mod Words
 pub mod Script
 pub mod Window
 pub mod Asking
 pub mod Claiming
 pub mod Sweep
 pub mod Sweeping
-pub mod LineLaws
-pub mod TrueOnesLaws
 pub mod ScriptLaws
 pub mod QuestionLinesLaws
 pub mod WindowLaws

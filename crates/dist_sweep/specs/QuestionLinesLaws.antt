@@ -15,11 +15,12 @@ use Rattle.dist_cert.specs.Accepted.{claim_in, claims_in}
 use Rattle.dist_cert.specs.Form.{Word}
 use Rattle.dist_cert.specs.Groups.{installations, installed_in, is_claim, leaves_open, IsClosedBy, claim_count, group}
 use Rattle.dist_cert.specs.GroupLaws.{installations-append, closed-more, count-append, group-append}
-use Rattle.dist_sweep.specs.Asking.{IsReplyLine, is_derived, question_lines}
-use Rattle.dist_sweep.specs.Words.{true_variables}
-use Rattle.dist_sweep.specs.declared.asker.Reply.{Reply}
+use Rattle.dist_line_write.specs.Asking.{is_derived, question_lines}
+use Rattle.dist_line_write.specs.Words.{true_variables}
+use Rattle.dist_sweep.specs.Asking.{IsReplyLine}
+use Rattle.dist_sweep.specs.declared.asking.Reply.{Reply}
 use Rattle.dist_cert.specs.ClaimRules.{no}
-use Rattle.dist_sweep.specs.declared.asker.Reply.TheVariants as replies
+use Rattle.dist_sweep.specs.declared.asking.Reply.TheVariants as replies
 
 pub derived-opens : (step : CertRecord) → is_derived step ≡ true → leaves_open step ≡ true
 derived-opens (Derived literals hints) is = refl

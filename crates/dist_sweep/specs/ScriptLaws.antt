@@ -1,34 +1,63 @@
 -- Laws of what was written so far, and of where the writing stops behind more lines. Proofs cite them, those of the
 -- crates above too.
-use Rattle.std.proofs.Common.{◌≡◌, ◌⊎◌, inl, inr, ℕ, ◌+◌, ◌≤◌, List, [], ◌∷◌, ◌++◌, Result, Ok, Err, refl, ap, sym}
-use Rattle.std.proofs.Common.{subst, ◌∙◌, append_assoc, append-nil, arith}
-use Rattle.std.proofs.lemmas.Bool.{cases_lt}
-use Rattle.std.proofs.lemmas.Grind.{flat_map-append}
-use Rattle.std.specs.Result.{IsErrAnd}
-use Rattle.dist_base.specs.Ascii.{line_feed}
-use Rattle.dist_outside.specs.Counts.{Rose}
+use Rattle.std.proofs.Common.{◌≡◌, ◌⊎◌, inl, inr, ℕ, List, [], ◌∷◌, ◌++◌, ap, sym, subst, ◌∙◌, append_assoc}
+use Rattle.std.proofs.Common.{append-nil, refl}
 use Rattle.dist_outside.specs.DeskView.{DeskView, FileGrew, WriteCounts}
+use Rattle.dist_outside.specs.declared.trouble.What.{What}
+use Rattle.dist_outside.specs.declared.trouble.What.TheVariants.{Lines, LineLiterals, RecordLine, Certificate}
 use Rattle.dist_outside.specs.declared.trouble.WorkError.{WorkError}
 use Rattle.dist_outside.specs.declared.trouble.WorkError.TheVariants.{ReadFault, WriteFault, TooLarge, NoMemory}
 use Rattle.dist_cert.specs.declared.records.CertRecord.{CertRecord}
-use Rattle.dist_cert.specs.Form.{record_text}
 use Rattle.dist_cert.specs.FileLines.{lines_text}
-use Rattle.dist_cert.specs.Writing.{WriterView, ended}
-use Rattle.dist_sweep.specs.Script.{Setting, AreWritten, IsWriter, IsCutOff, StopsBy, Stops}
+use Rattle.dist_cert.specs.Part.{Passes}
+use Rattle.dist_cert.specs.PartByRecordsLaws.{IsLine}
+use Rattle.dist_cert.specs.Writing.{WriterView}
+use Rattle.dist_line_write.specs.Script.{KeepsLines, LineStopsBy, PutMore, PutStops}
+use Rattle.dist_line_write.specs.Script.{IsWriter as StandsBehind, Passes as PassesNumbers}
+use Rattle.dist_line_write.specs.ScriptLaws.{TwiceLaw, lines-more, rose-later}
+use Rattle.dist_sweep.specs.Script.{Setting, AllNext, AreWritten, IsCutOff, IsWriter, Stops, StopsBy, matter_in}
+use Rattle.dist_sweep.specs.Script.{script_of}
 
-pub lines-more : (lines more : List CertRecord) → lines_text (lines ++ more) ≡ lines_text lines ++ lines_text more
-lines-more lines more = flat_map-append (λ step. record_text step ++ line_feed ∷ []) lines more
+-- ---- lines that may come next
 
-pub one-line : (step : CertRecord) → lines_text (step ∷ []) ≡ ended (record_text step)
-one-line step = append-nil (record_text step ++ line_feed ∷ [])
+pub next-join : (g : Setting) (before steps more : List CertRecord) → AllNext g before steps
+    → AllNext g (before ++ steps) more → AllNext g before (steps ++ more)
+next-join g before [] more all rest = subst (λ b. AllNext g b more) (append-nil before) rest
+next-join g before (x ∷ steps) more all rest = (
+  all.0,
+  next-join g (before ++ x ∷ []) steps more all.1
+      (subst (λ b. AllNext g b more) (sym (append_assoc before (x ∷ []) steps)) rest),
+)
 
--- the laws of a file that grows
-abbrev pub BeginsLaw : Type 0
-BeginsLaw = (desk : DeskView) → FileGrew [] desk desk
+-- ---- one line more
 
-abbrev pub TwiceLaw : Type 0
-TwiceLaw = (first second : List ℕ) (old mid new : DeskView) → FileGrew first old mid → FileGrew second mid new
-    → FileGrew (first ++ second) old new
+-- the writer, apart from which lines may come
+pub stands-behind : (g : Setting) (before : List CertRecord) (w : WriterView) → IsWriter g before w
+    → StandsBehind (script_of g) before w
+stands-behind g before w writer = record { written = writer.written.within; stands = writer.stands }
+
+pub put-behind : (g : Setting) (before : List CertRecord) (step : CertRecord) (w after : WriterView)
+    → PutMore w after step → IsWriter g before w → IsLine (matter_in g) g.header before step
+    → KeepsLines g.limits (before ++ step ∷ []) → IsWriter g (before ++ step ∷ []) after
+put-behind g before step w after more writer line kept =
+    let behind = more (script_of g) before (stands-behind g before w writer) kept in
+    record {
+      written = record {
+        next = next-join g [] before (step ∷ []) writer.written.next (line, tt);
+        within = behind.written;
+      };
+      stands = behind.stands;
+    }
+
+-- ---- where the writing stops
+
+pub passes-in : (g : Setting) (steps : List CertRecord) (what : What) → PassesNumbers (script_of g) steps what
+    → Passes g.limits g.header steps what
+passes-in g steps Lines passes = passes
+passes-in g steps LineLiterals passes = passes
+passes-in g steps RecordLine passes = passes
+passes-in g steps Certificate passes = passes
+passes-in g steps what passes = passes
 
 -- nothing more was written than some bytes behind the lines
 pub stopped-here : (g : Setting) (before : List CertRecord) (w : WriterView) (old new : DeskView) (error : WorkError)
@@ -49,13 +78,6 @@ pub stops-for-memory : (g : Setting) (before : List CertRecord) (w : WriterView)
     → Stops g before old new NoMemory
 stops-for-memory g before w old new writer grew = stopped-here g before w old new NoMemory [] writer grew (inl refl)
     tt
-
-pub rose-later : (old mid new : ℕ) → old ≤ mid → mid ≤ new → Rose mid new → Rose old new
-rose-later old mid new first second (inl less) = inl (omega arith)
-rose-later old mid new first second (inr full) = elim (cases_lt old mid) [
-  | inl less ↦ inl (omega arith)
-  | inr past ↦ inr (omega arith)
-]
 
 pub by-later : (g : Setting) (lines : List CertRecord) (cut : List ℕ) (old mid new : DeskView) (error : WorkError)
     → WriteCounts old mid → WriteCounts mid new
@@ -86,14 +108,17 @@ stops-after twice g before more old mid new error grew stops =
           stops.cut old mid new error grew.counts stops.grew.counts stops.by);
     }
 
--- a clause at the error that a `?` hands on
-pub by-exit : {X : Type 0} (P : Result X WorkError → Type 0) (result : Result X WorkError) (error : WorkError)
-    → IsErrAnd result (λ e. e ≡ error)
-    → P (Err error) → P result
-by-exit P (Ok x) error is holds = absurd is
-by-exit P (Err e) error is holds = subst (λ y. P (Err y)) (sym is) holds
-
-pub two-grow : TwiceLaw → (first second : List ℕ) (old mid new : DeskView) → FileGrew first old mid
-    → FileGrew second mid new → (bytes : List ℕ)
-    × FileGrew bytes old new
-two-grow twice first second old mid new a b = (first ++ second, twice first second old mid new a b)
+-- the writing stopped in a line that may come next
+pub put-stopped : (g : Setting) (before : List CertRecord) (step : CertRecord) (w : WriterView) (old new : DeskView)
+    (error : WorkError) → PutStops w step old new error → IsWriter g before w
+    → IsLine (matter_in g) g.header before step → Stops g before old new error
+put-stopped g before step w old new error stops writer line =
+    let s = stops (script_of g) before (stands-behind g before w writer) in
+    stopped-here g before w old new error s.cut writer s.grew (inr (step, line, s.is_front)) (by s.cut error s.by)
+  where
+    by : (cut : List ℕ) (error : WorkError) → LineStopsBy (script_of g) (before ++ step ∷ []) cut old new error
+        → StopsBy g before cut old new error
+    by cut WriteFault b = b
+    by cut (TooLarge what) b = (b.0, (step, line, passes-in g (before ++ step ∷ []) what b.1))
+    by cut NoMemory b = tt
+    by cut ReadFault b = b

@@ -1,13 +1,8 @@
 -- What is kept between the first line and the last one of a sweep, and what it leaves where it stops.
 use Rattle.std.specs.Prelude.{◌≡◌, ◌⊎◌, ◌≤◌, ℕ, Bool, List, [], ◌∷◌, ◌++◌, Result, length}
-use Rattle.dist_base.specs.Front.{IsFrontOf}
-use Rattle.dist_clause.specs.ClauseList.{literal_count}
-use Rattle.dist_clause.specs.Formula.{Literal}
-use Rattle.dist_outside.specs.Counts.{Rose}
 use Rattle.dist_outside.specs.DeskView.{DeskView, FileGrew}
 use Rattle.dist_outside.specs.declared.limits.Limits.{Limits}
 use Rattle.dist_outside.specs.declared.trouble.WorkError.{WorkError}
-use Rattle.dist_outside.specs.declared.trouble.WorkError.TheVariants.{WriteFault, TooLarge, NoMemory}
 use Rattle.dist_repo.specs.Order.{IsInOrder}
 use Rattle.dist_repo.specs.PackageList.{PackageList}
 use Rattle.dist_cert.specs.declared.records.CertKind.{CertKind}
@@ -18,49 +13,20 @@ use Rattle.dist_cert.specs.declared.records.Header.{Header}
 use Rattle.dist_cert.specs.Accepted.{claims_in}
 use Rattle.dist_cert.specs.Form.{header_text}
 use Rattle.dist_cert.specs.Groups.{claim_count}
-use Rattle.dist_cert.specs.Part.{Passes}
 use Rattle.dist_cert.specs.PartByRecordsLaws.{IsHeaderOf}
 use Rattle.dist_cert.specs.FileLines.{lines_text}
 use Rattle.dist_cert.specs.Refusal.{certificate_text}
-use Rattle.dist_cert.specs.Writing.{WriterView, ended}
 use Rattle.dist_subject.specs.Basis.{Basis, IsBasisOf, matter_of}
 use Rattle.dist_subject.specs.Inputs.{AreInputsOf}
 use Rattle.dist_subject.specs.Limited.{AreInputsWithin}
-use Rattle.dist_sweep.specs.Asking.{AskerView, IsLogAt}
+use Rattle.dist_line_write.specs.Asking.{AskerView, IsLogAt}
+use Rattle.dist_line_write.specs.Script.{StopsIn, new_writer}
+use Rattle.dist_subject.specs.Installed.{ModelsStand}
+use Rattle.dist_sweep.specs.Script.{Setting, AreWritten, IsCutOff, Stops, StopsBy, matter_in, script_of}
 use Rattle.dist_sweep.specs.Claiming.{Keeping, IsSwept}
-use Rattle.dist_sweep.specs.Script.{Setting, AreWritten, IsCutOff, IsWriter, Stops, StopsBy, matter_in}
 use Rattle.dist_sweep.specs.Sweep.{SweepAnswers, header_of}
 use Rattle.dist_sweep.specs.Window.{WindowView, IsWindowAt}
 use Rattle.dist_sweep.specs.declared.sweep.SweepInputs.{SweepInputs}
-
--- ---- the first line
-
--- a writer that has written nothing
-abbrev pub new_writer : Limits → WriterView
-new_writer limits = record { line_limit = limits.record_line; whole_limit = limits.certificate; written = 0 }
-
--- where nothing was written, the writer stands behind the first line
-abbrev pub HeaderMore : WriterView → WriterView → Header → Type 0
-HeaderMore w after header = (g : Setting) → header ≡ g.header → w ≡ new_writer g.limits → IsWriter g [] after
-
--- why the writing stops in the first line, of which it may have written a front
-abbrev pub FirstStopsBy : Setting → List ℕ → DeskView → DeskView → WorkError → Type 0
-FirstStopsBy g cut old new WriteFault = Rose old.write_faults new.write_faults
-FirstStopsBy g cut old new (TooLarge what) = (cut ≡ []) × Passes g.limits g.header [] what
-FirstStopsBy g cut old new NoMemory = Unit {0}
-FirstStopsBy g cut old new error = ⊥
-
--- The writing stopped in the first line.
-pub record StopsFirst (g : Setting) (old new : DeskView) (error : WorkError) : Type 0 where
-  pub cut : List ℕ
-  pub grew : FileGrew cut old new
-  pub is_front : IsFrontOf (ended (header_text g.header)) cut
-  pub by : FirstStopsBy g cut old new error
-
--- or the writing stops in the first line
-abbrev pub HeaderStops : WriterView → Header → DeskView → DeskView → WorkError → Type 0
-HeaderStops w header old new error = (g : Setting) → header ≡ g.header → w ≡ new_writer g.limits
-    → StopsFirst g old new error
 
 -- ---- the claims
 
@@ -100,7 +66,8 @@ pub record Begins {C : Type 0} (Keeps : Keeping C) (g : Setting) (header : Heade
     (c : C) : Type 0 where
   pub header_is : header ≡ g.header
   pub packages : g.header.packages ≡ (matter_in g).packages
-  pub log : IsLogAt g [] a.log a.limit
+  pub log : IsLogAt (script_of g) [] a.log a.limit
+  pub stand : ModelsStand (matter_in g)
   pub writer : a.writer ≡ new_writer g.limits
   pub window : IsWindowAt [] w
   pub keeps : Keeps g [] c
@@ -129,8 +96,8 @@ SweepMore Keeps header old new a w c made = (g : Setting) → Begins Keeps g hea
 -- or the writing stops, in the first line or behind it
 abbrev pub SweepStops : {C : Type 0} → Keeping C → Header → DeskView → DeskView → AskerView → WindowView → C
     → WorkError → Type 0
-SweepStops Keeps header old new a w c error = (g : Setting) → Begins Keeps g header a w c → StopsFirst g old new error
-    ⊎ StopsLater g old new error
+SweepStops Keeps header old new a w c error = (g : Setting) → Begins Keeps g header a w c
+    → StopsIn (script_of g) (header_text g.header) [] old new error ⊎ StopsLater g old new error
 
 -- ---- the file
 

@@ -7,7 +7,7 @@ use Rattle.dist_clause.specs.Formula.{value_of}
 use Rattle.dist_cert.specs.declared.TheConstants.{REACH}
 use Rattle.dist_cert.specs.declared.records.CertRecord.{CertRecord}
 use Rattle.dist_cert.specs.Groups.{installations}
-use Rattle.dist_sweep.specs.Words.{true_variables}
+use Rattle.dist_line_write.specs.Words.{true_variables}
 
 -- the latest installations by their truth values, how many there were, and over how many variables
 pub record WindowView : Type 0 where

@@ -13,8 +13,8 @@ use Rattle.dist_cert.specs.Form.{Word}
 use Rattle.dist_cert.specs.Groups.{installations, installation_at}
 use Rattle.dist_sweep.specs.Window.{HasEach}
 use Rattle.dist_sweep.specs.Window.{WindowView, IsWindowAt, kept_at, numbers_of}
-use Rattle.dist_sweep.specs.Words.{true_variables}
-use Rattle.dist_sweep.specs.TrueOnesLaws.{IsKept, all-kept, contained, kept-there, range-rises, true-ones}
+use Rattle.dist_line_write.specs.TrueOnesLaws.{IsKept, all-kept, contained, kept-there, range-rises, true-ones}
+use Rattle.dist_line_write.specs.Words.{true_variables}
 use Rattle.circular_buffer.specs.Buffer.{keep_last}
 use Rattle.dist_sweep.specs.QuestionLinesLaws.{AreAsked, installed-after}
 

@@ -3,11 +3,12 @@ ghost use Rattle.std.specs.Prelude.{◌≡◌, ℕ, List, IfErr, IfOk, OnOk};
 ghost use Rattle.dist_outside.specs.Files.{IsWriting};
 ghost use Rattle.dist_cert.specs.declared.records.CertRecord.{CertRecord};
 ghost use Rattle.dist_sweep.specs.Claiming.{ClaimMore, ClaimStops, Suits};
-ghost use Rattle.dist_sweep.specs.Script.{Grows, Setting};
+ghost use Rattle.dist_line_write.specs.Script.{Grows};
+ghost use Rattle.dist_sweep.specs.Script.{Setting};
 
-use crate::asker::Asker;
 use crate::window::Window;
 use dist_cert::Claim;
+use dist_line_write::Asker;
 use dist_outside::{Desk, WorkError};
 
 /// Makes the claims of a sweep, one package after another.

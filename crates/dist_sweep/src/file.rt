@@ -4,14 +4,14 @@ ghost use Rattle.dist_cert.specs.Form.{KeepsLimit};
 ghost use Rattle.dist_outside.specs.DeskView.{Closed, Holds, NotCreated};
 ghost use Rattle.dist_outside.specs.Files.{IsNotWriting, IsWriting, Writing, where_told};
 ghost use Rattle.dist_outside.specs.Reading.{DeskWriteCause};
-ghost use Rattle.dist_sweep.specs.Script.{Grows};
+ghost use Rattle.dist_line_write.specs.Script.{Grows};
 ghost use Rattle.dist_sweep.specs.Sweeping.{ClaimsMore, ClaimsStop, FileAnswers, SweepMore, SweepStops};
 
-use crate::asker::Asker;
 use crate::claimant::Claimant;
 use crate::window::Window;
 use dist_cert::{CertRecord, Claims, Header, forms_are_clear};
-use dist_outside::{Desk, Trouble, WorkError, file_grows, file_holds};
+use dist_line_write::{Asker, close_file, create_file};
+use dist_outside::{Desk, WorkError, file_grows, file_holds};
 use std::alloc::Global;
 
 /// Puts the claims of so many packages, each with the lines that it needs.
@@ -66,33 +66,6 @@ fn put_all<C: Claimant, D: Desk>(
     Ok(made)
 }
 
-/// Makes an empty file to be written.
-fn create<D: Desk>(desk: &mut D, name: &str) -> Result<(), WorkError>
-    requires idle { IsNotWriting (D.view desk.old).mode }
-    ensures ok { OnOk result (Holds name.now [] (Writing (where_told (D.view desk.old).files name.now)) (D.view desk.old) (D.view desk.new)) }
-    ensures err { OnErr result (NotCreated name.now (D.view desk.old) (D.view desk.new)) }
-    ensures cause { IfErr result (λ error. DeskWriteCause error (D.view desk.old) (D.view desk.new)) }
-{
-    match desk.create(name) {
-        Ok(()) => Ok(()),
-        Err(Trouble::Failed) => Err(WorkError::WriteFault),
-        Err(Trouble::NoMemory) => Err(WorkError::NoMemory),
-    }
-}
-
-/// Ends the writing of a file.
-fn close<D: Desk>(desk: &mut D) -> Result<(), WorkError>
-    requires writing { IsWriting (D.view desk.old).mode }
-    ensures closed { Closed (D.view desk.old) (D.view desk.new) }
-    ensures cause { IfErr result (λ error. DeskWriteCause error (D.view desk.old) (D.view desk.new)) }
-{
-    match desk.close() {
-        Ok(()) => Ok(()),
-        Err(Trouble::Failed) => Err(WorkError::WriteFault),
-        Err(Trouble::NoMemory) => Err(WorkError::NoMemory),
-    }
-}
-
 /// Writes the file of a sweep. It is closed whatever comes.
 pub fn write_file<C: Claimant, D: Desk>(
     alloc: Global,
@@ -111,9 +84,9 @@ pub fn write_file<C: Claimant, D: Desk>(
     forms_are_clear();
     file_holds();
     let mut window = Window::new(alloc, asker.variables())?;
-    create(desk, name)?;
+    create_file(desk, name)?;
     let made = put_all(alloc, claimant, asker, &mut window, desk, header);
-    let closed = close(desk);
+    let closed = close_file(desk);
     let made = made?;
     closed?;
     Ok(made)

@@ -4,11 +4,11 @@ ghost use Rattle.dist_base.specs.declared.TheConstants.{MAX_LIMIT, MAX_LINES, MA
 ghost use Rattle.dist_outside.specs.Files.{IsNotWriting};
 ghost use Rattle.dist_sweep.specs.Sweeping.{SweepsOver, first_header};
 
-use crate::asker::Asker;
 use crate::claimant::Claimant;
 use crate::file::write_file;
 use dist_cert::{CertKind, Claims, Header};
 use dist_clause::ClauseSet;
+use dist_line_write::Asker;
 use dist_outside::{Desk, Limits, WorkError};
 use dist_subject::models_are_healthy;
 use std::alloc::Global;

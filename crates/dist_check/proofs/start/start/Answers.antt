@@ -2,18 +2,17 @@ use Rattle.std.proofs.Common.{◌∙◌, ap, sym}
 use Rattle.std.proofs.lemmas.Bool.{true≢false}
 use Rattle.dist_derive.specs.ClauseLog.{ClauseLog}
 use Rattle.dist_check.specs.StartPrivate.{HasNumbers}
-use Rattle.dist_check.proofs.Begun.{begins, begun, fits-numbers}
+use Rattle.dist_check.proofs.Begun.{begins, checker, fits-numbers}
 use Rattle.dist_check.proofs.start.start.Goals as goal
 
-pub returns : goal.returns
-returns c =
+pub returns-in-Ok : goal.returns-in-Ok
+returns-in-Ok c =
     let h = c.args.header.now in
     let subject = c.in_ok-subject.subject in
-    begins c.args.repo.now c.args.limits.now h subject.packages subject.inputs subject.layout subject.future c.new.result
+    begins c.args.repo.now c.args.limits.now h subject.packages subject.inputs subject.layout subject.future c.in-Ok.checker c.new-notes.result
     c.in_ok-subject.ensures.ok (c.has_numbers.ensures.0 c.if-not-has_numbers.false)
-    (c.new.ensures.value
-    ∙ ap (λ (log : ClauseLog). begun h.limit subject.packages subject.layout subject.future log) c.in_ok-log.ensures)
-    c.new.ensures.within
+    (c.in-Ok.ensures.value ∙ ap (λ (log : ClauseLog). checker h.limit subject.future log) c.in_ok-log.ensures)
+    c.in-Ok.ensures.within c.new-notes.ensures
 
 pub returns-then-not-has_numbers : goal.returns-then-not-has_numbers
 returns-then-not-has_numbers c =

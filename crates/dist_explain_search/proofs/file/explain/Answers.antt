@@ -3,7 +3,7 @@ use Rattle.std.specs.Prelude.{All}
 use Rattle.dist_cert.specs.Form.{IsSmall}
 use Rattle.dist_outside.specs.declared.trouble.WorkError.{WorkError}
 use Rattle.dist_explain.specs.declared.explained.Explained.{Explained}
-use Rattle.dist_sweep.specs.ScriptLaws.{by-exit}
+use Rattle.dist_line_write.specs.ScriptLaws.{by-exit}
 use Rattle.dist_explain_search.specs.ExplainAnswers.{TellsFirst}
 use Rattle.dist_explain_search.proofs.ExplainedLemmas.{asked-is, explain-answers, first-err, first-ok, told-is}
 use Rattle.dist_explain_search.proofs.file.explain.Goals as goal

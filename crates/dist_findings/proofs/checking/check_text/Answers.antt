@@ -10,7 +10,6 @@ use Rattle.dist_judge.specs.Judging.{OfText}
 use Rattle.dist_judge.specs.ReadingLaws.{by_exit, later_cause, nothing_read}
 use Rattle.dist_findings.specs.Answers.{TextAnswers}
 use Rattle.dist_findings.specs.FilesClearLaws.{clear_files}
-use Rattle.dist_findings.specs.declared.finding.Finding.{Finding}
 use Rattle.dist_findings.proofs.First.{begin-stops, begins-checked, first-stops}
 use Rattle.dist_findings.proofs.checking.check_text.Goals as goal
 
@@ -84,9 +83,8 @@ answers_behind-requires-clause-start g c =
     let some = subst (λ (l : List ℕ). FirstOfSome c.new-reader.result (Ok l)) (sym c.deref.ensures.value) c.in_ok-line.ensures.some in
     let gives = subst (λ (l : List ℕ). GivesFirst c.new-reader.result c.first.new.self (Ok l)) (sym c.deref.ensures.value) c.in_ok-line.ensures.gives in
     begins-checked file (clear_files c.forms_are_clear.ensures file c.front-front.ensures.one_line) c.args.limits.now c.new-reader.result c.first.new.self
-    None None None c.deref.result.now c.new-reader.ensures refl refl some gives numbers c.in_ok-begun.begun.asking
-    (λ (found : List Finding). g.A.Answering.noted c.args.answering.now numbers found c.in_ok-begun.begun.notes) c.in_ok-begun.ensures.ok
-    c.in_ok-begun.ensures.noted
+    None None None c.deref.result.now c.new-reader.ensures refl refl (g.A.Answering.noted c.args.answering.now) some gives numbers
+    c.in_ok-begun.begun.kept.checker c.in_ok-begun.begun.kept.notes c.in_ok-begun.ensures.ok c.in_ok-begun.ensures.noted
 
 pub returns-clause-text : goal.returns-clause-text
 returns-clause-text g c =
@@ -103,8 +101,8 @@ returns-clause-text g c =
     let gives = subst (λ (l : List ℕ). GivesFirst c.new-reader.result c.first.new.self (Ok l)) (sym c.deref.ensures.value) c.in_ok-line.ensures.gives in
     c.answers_behind.ensures.text told
     (begins-checked file (clear_files c.forms_are_clear.ensures file c.front-front.ensures.one_line) c.args.limits.now c.new-reader.result c.first.new.self
-    told left after c.deref.result.now c.new-reader.ensures (nothing_read c.args.limits.now c.new-reader.result old c.new-reader.ensures) answers some gives
-    numbers c.in_ok-begun.begun.asking (λ (found : List Finding). g.A.Answering.noted c.args.answering.now numbers found c.in_ok-begun.begun.notes)
+    told left after c.deref.result.now c.new-reader.ensures (nothing_read c.args.limits.now c.new-reader.result old c.new-reader.ensures) answers
+    (g.A.Answering.noted c.args.answering.now) some gives numbers c.in_ok-begun.begun.kept.checker c.in_ok-begun.begun.kept.notes
     c.in_ok-begun.ensures.ok c.in_ok-begun.ensures.noted)
 
 pub returns-clause-cause : goal.returns-clause-cause

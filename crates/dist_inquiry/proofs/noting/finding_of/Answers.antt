@@ -1,6 +1,6 @@
 use Rattle.std.proofs.Common.{◌<◌, ◌≤◌, ◌∙◌, List, ℕ, sym, subst}
 use Rattle.std.specs.List.{All, AllPairs}
-use Rattle.dist_sweep.specs.TrueOnesLaws.{true-low, true-rising}
+use Rattle.dist_line_write.specs.TrueOnesLaws.{true-low, true-rising}
 use Rattle.dist_inquiry.proofs.noting.finding_of.Goals as goal
 
 pub returns-in_ok-members-in-Found-clause-form : goal.returns-in_ok-members-in-Found-clause-form

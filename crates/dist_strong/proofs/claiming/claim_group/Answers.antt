@@ -3,7 +3,7 @@ use Rattle.dist_outside.specs.DeskView.{DeskView}
 use Rattle.dist_strong.specs.ClaimingPrivate.{StrongMore}
 use Rattle.dist_strong.specs.SettlingPrivate.{SettleStops}
 use Rattle.dist_strong.proofs.Claimed.{group-claimed}
-use Rattle.dist_sweep.specs.ScriptLaws.{two-grow}
+use Rattle.dist_line_write.specs.ScriptLaws.{two-grow}
 use Rattle.dist_strong.proofs.SettleSteps.{settle-stops}
 use Rattle.dist_strong.proofs.claiming.claim_group.Goals as goal
 

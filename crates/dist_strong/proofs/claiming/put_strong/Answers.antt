@@ -5,7 +5,7 @@ use Rattle.dist_outside.specs.declared.trouble.WorkError.TheVariants.{NoMemory}
 use Rattle.dist_cert.specs.declared.records.Claim.{Claim}
 use Rattle.dist_strong.specs.SettlingPrivate.{SettleStops}
 use Rattle.dist_strong.proofs.ClaimSteps.{strong-more, strong-stops}
-use Rattle.dist_sweep.specs.ScriptLaws.{by-exit}
+use Rattle.dist_line_write.specs.ScriptLaws.{by-exit}
 use Rattle.dist_strong.proofs.SettleSteps.{memory-stops}
 use Rattle.dist_strong.proofs.claiming.put_strong.Goals as goal
 

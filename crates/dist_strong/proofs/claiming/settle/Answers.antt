@@ -6,15 +6,16 @@ use Rattle.dist_outside.specs.declared.trouble.WorkError.TheVariants.{NoMemory}
 use Rattle.dist_cert.specs.declared.records.Claim.{Claim}
 use Rattle.dist_cert.specs.ClaimRules.{yes}
 use Rattle.dist_cert.specs.Form.{Word}
-use Rattle.dist_sweep.specs.Asking.{AskerView, Holds, IsOver}
+use Rattle.dist_line_write.specs.Asking.{AskerView, IsOver}
+use Rattle.dist_line_write.specs.ScriptLaws.{by-exit, two-grow}
+use Rattle.dist_sweep.specs.Asking.{Holds}
 use Rattle.dist_strong.specs.ClaimingPrivate.{StrongClaims, StrongMore, StrongStops}
 use Rattle.dist_strong.specs.SettlingPrivate.{SettleStops}
 use Rattle.dist_sweep.specs.Window.{WindowView}
-use Rattle.dist_sweep.specs.declared.asker.Reply.{Reply}
-use Rattle.dist_sweep.specs.declared.asker.Reply.TheVariants as replies
+use Rattle.dist_sweep.specs.declared.asking.Reply.{Reply}
+use Rattle.dist_sweep.specs.declared.asking.Reply.TheVariants as replies
 use Rattle.dist_strong.proofs.Claimed.{alone-over, claim-ask-stops, claim-memory, claimed-found, claimed-uninstallable, claimed-unknown, group-memory}
 use Rattle.dist_strong.proofs.Claimed.{group-stops, new-fits, uninstallable-stops, unknown-stops}
-use Rattle.dist_sweep.specs.ScriptLaws.{by-exit, two-grow}
 use Rattle.dist_strong.proofs.claiming.settle.Goals as goal
 
 -- what is told of an installation with the package
@@ -50,7 +51,7 @@ returns-in_err-group-in-Found-clause-err g c =
     let new : DeskView = g.D.Desk.view c.ask.new.desk in
     by-exit (λ (r : Result Claim WorkError). IfErr r (StrongStops c.args.package old new c.args.asker.now c.args.window.now))
     c.from_residual-in_err-group-in-Found.result NoMemory c.from_residual-in_err-group-in-Found.ensures.1
-    (group-memory c.file_grows.ensures.begin c.file_grows.ensures.twice old new c.args.asker.now c.ask.new.self c.args.window.now c.args.package
+    (group-memory c.file_grows.ensures.begin c.file_grows.ensures.twice old new c.args.asker.now c.ask.new.asker c.args.window.now c.args.package
     c.deref.result.now c.in_ok-values.field-0 (c.deref.ensures.value ∙ c.in_ok-question.ensures) c.in_ok-values.ensures.ok c.requires.suits)
 
 pub first_group-requires : goal.first_group-requires
@@ -61,7 +62,7 @@ first_group-requires g c =
 
 pub claim_group-requires-clause-fits : goal.claim_group-requires-clause-fits
 claim_group-requires-clause-fits g c =
-    new-fits c.args.asker.now c.ask.new.self c.args.window.now c.first_group.new.window c.in_ok-group-in-Found.group c.args.package c.in-Found.values
+    new-fits c.args.asker.now c.ask.new.asker c.args.window.now c.first_group.new.window c.in_ok-group-in-Found.group c.args.package c.in-Found.values
     c.requires.suits c.ask.ensures.limit c.ask.ensures.variables
     (held c.args.asker.now.log.variables c.args.asker.now c.args.window.now c.deref.result.now (yes c.args.package ∷ []) c.in_ok-values.field-0
     (replies.Found c.in-Found.values)
@@ -76,10 +77,10 @@ returns-in-Found-clause-ok g c =
     let holds = held c.args.asker.now.log.variables c.args.asker.now c.args.window.now c.deref.result.now (yes c.args.package ∷ []) c.in_ok-values.field-0
     (replies.Found c.in-Found.values)
     c.requires.suits.variables (c.deref.ensures.value ∙ c.in_ok-question.ensures) c.in-Found.is refl c.in_ok-values.ensures.holds in
-    IfOk-weaker c.claim_group.result (StrongMore mid new c.ask.new.self c.claim_group.new.asker c.first_group.new.window c.claim_group.new.window
+    IfOk-weaker c.claim_group.result (StrongMore mid new c.ask.new.asker c.claim_group.new.asker c.first_group.new.window c.claim_group.new.window
     c.in_ok-group-in-Found.group)
     (StrongClaims c.args.package old new c.args.asker.now c.claim_group.new.asker c.args.window.now c.claim_group.new.window)
-    (λ claim more. claimed-found c.file_grows.ensures.twice old mid new c.args.asker.now c.ask.new.self c.claim_group.new.asker c.args.window.now
+    (λ claim more. claimed-found c.file_grows.ensures.twice old mid new c.args.asker.now c.ask.new.asker c.claim_group.new.asker c.args.window.now
     c.first_group.new.window c.claim_group.new.window
     c.in_ok-group-in-Found.group c.args.package c.in-Found.values
     c.deref.result.now c.in_ok-values.field-0 claim (c.deref.ensures.value ∙ c.in_ok-question.ensures)
@@ -94,9 +95,9 @@ returns-in-Found-clause-err g c =
     let holds = held c.args.asker.now.log.variables c.args.asker.now c.args.window.now c.deref.result.now (yes c.args.package ∷ []) c.in_ok-values.field-0
     (replies.Found c.in-Found.values)
     c.requires.suits.variables (c.deref.ensures.value ∙ c.in_ok-question.ensures) c.in-Found.is refl c.in_ok-values.ensures.holds in
-    IfErr-weaker c.claim_group.result (SettleStops mid new c.ask.new.self c.first_group.new.window c.in_ok-group-in-Found.group)
+    IfErr-weaker c.claim_group.result (SettleStops mid new c.ask.new.asker c.first_group.new.window c.in_ok-group-in-Found.group)
     (StrongStops c.args.package old new c.args.asker.now c.args.window.now)
-    (λ error stops. group-stops c.file_grows.ensures.twice old mid new c.args.asker.now c.ask.new.self c.args.window.now c.first_group.new.window
+    (λ error stops. group-stops c.file_grows.ensures.twice old mid new c.args.asker.now c.ask.new.asker c.args.window.now c.first_group.new.window
     c.in_ok-group-in-Found.group c.args.package c.in-Found.values
     c.deref.result.now c.in_ok-values.field-0 error (c.deref.ensures.value ∙ c.in_ok-question.ensures)
     c.in-Found.is c.in_ok-values.ensures.ok c.requires.suits holds c.in_ok-group-in-Found.ensures.group c.in_ok-group-in-Found.ensures.window stops)
@@ -116,7 +117,7 @@ returns-in_err-put-in-Refuted-clause-err g c =
     let fits : c.args.asker.now.log.variables < 2 ^ 32 = omega (arith, c.variables-stated.ensures.value, c.variables-stated.ensures.stated) in
     by-exit (λ (r : Result Claim WorkError). IfErr r (StrongStops c.args.package old new c.args.asker.now c.args.window.now))
     c.from_residual-in_err-put-in-Refuted.result c.in_err-put-in-Refuted.field-0.0 c.from_residual-in_err-put-in-Refuted.ensures.1
-    (uninstallable-stops c.file_grows.ensures.twice old mid new c.args.asker.now c.ask.new.self c.args.window.now c.args.package
+    (uninstallable-stops c.file_grows.ensures.twice old mid new c.args.asker.now c.ask.new.asker c.args.window.now c.args.package
     c.deref.result.now c.in_ok-values.field-0 c.in_err-put-in-Refuted.field-0.0 fits (c.deref.ensures.value ∙ c.in_ok-question.ensures) c.in-Refuted.is
     c.in_ok-values.ensures.ok c.requires.suits c.in_err-put-in-Refuted.ensures.err)
 
@@ -132,7 +133,7 @@ returns-in-Refuted-clause-ok g c =
     let mid : DeskView = g.D.Desk.view c.ask.new.desk in
     let new : DeskView = g.D.Desk.view c.put.new.desk in
     let fits : c.args.asker.now.log.variables < 2 ^ 32 = omega (arith, c.variables-stated.ensures.value, c.variables-stated.ensures.stated) in
-    claimed-uninstallable c.file_grows.ensures.twice old mid new c.args.asker.now c.ask.new.self c.put.new.self c.args.window.now c.args.package
+    claimed-uninstallable c.file_grows.ensures.twice old mid new c.args.asker.now c.ask.new.asker c.put.new.self c.args.window.now c.args.package
     c.deref.result.now c.in_ok-values.field-0 fits (c.deref.ensures.value ∙ c.in_ok-question.ensures) c.in-Refuted.is
     c.in_ok-values.ensures.ok c.requires.suits c.put.ensures.rest c.in_ok-put-in-Refuted.ensures.grew c.in_ok-put-in-Refuted.ensures.ok
 
@@ -150,7 +151,7 @@ returns-in_err-put-in-Undecided-clause-err g c =
     let fits : c.args.asker.now.log.variables < 2 ^ 32 = omega (arith, c.variables-stated.ensures.value, c.variables-stated.ensures.stated) in
     by-exit (λ (r : Result Claim WorkError). IfErr r (StrongStops c.args.package old new c.args.asker.now c.args.window.now))
     c.from_residual-in_err-put-in-Undecided.result c.in_err-put-in-Undecided.field-0.0 c.from_residual-in_err-put-in-Undecided.ensures.1
-    (unknown-stops c.file_grows.ensures.twice old mid new c.args.asker.now c.ask.new.self c.args.window.now c.args.package
+    (unknown-stops c.file_grows.ensures.twice old mid new c.args.asker.now c.ask.new.asker c.args.window.now c.args.package
     c.deref.result.now c.in_ok-values.field-0 c.in_err-put-in-Undecided.field-0.0 fits (c.deref.ensures.value ∙ c.in_ok-question.ensures) c.in-Undecided.is
     c.in_ok-values.ensures.ok c.requires.suits c.in_err-put-in-Undecided.ensures.err)
 
@@ -166,7 +167,7 @@ returns-clause-ok g c =
     let mid : DeskView = g.D.Desk.view c.ask.new.desk in
     let new : DeskView = g.D.Desk.view c.put-in-Undecided.new.desk in
     let fits : c.args.asker.now.log.variables < 2 ^ 32 = omega (arith, c.variables-stated.ensures.value, c.variables-stated.ensures.stated) in
-    claimed-unknown c.file_grows.ensures.twice old mid new c.args.asker.now c.ask.new.self c.put-in-Undecided.new.self c.args.window.now c.args.package
+    claimed-unknown c.file_grows.ensures.twice old mid new c.args.asker.now c.ask.new.asker c.put-in-Undecided.new.self c.args.window.now c.args.package
     c.deref.result.now c.in_ok-values.field-0 fits (c.deref.ensures.value ∙ c.in_ok-question.ensures) c.in-Undecided.is
     c.in_ok-values.ensures.ok c.requires.suits c.put-in-Undecided.ensures.rest c.in_ok-put-in-Undecided.ensures.grew c.in_ok-put-in-Undecided.ensures.ok
 

@@ -2,7 +2,7 @@ use Rattle.std.proofs.Common.{◌<◌, ◌≤◌, ◌∙◌, List, ℕ, length, 
 use Rattle.dist_cert.specs.Form.{AreFromOne}
 use Rattle.dist_sweep.specs.Window.{numbers_of}
 use Rattle.dist_sweep.specs.WindowLaws.{numbers-low, some-numbers}
-use Rattle.dist_sweep.specs.TrueOnesLaws.{true-low}
+use Rattle.dist_line_write.specs.TrueOnesLaws.{true-low}
 use Rattle.dist_strong.proofs.claiming.strong_line.Goals as goal
 
 pub from_zero-requires : goal.from_zero-requires

@@ -6,7 +6,7 @@ use Rattle.dist_outside.specs.declared.trouble.WorkError.{WorkError}
 use Rattle.dist_outside.specs.declared.trouble.WorkError.TheVariants.{NoMemory}
 use Rattle.dist_strong.specs.SettlingPrivate.{SettleStops}
 use Rattle.dist_strong.proofs.Counting.{fewer-open}
-use Rattle.dist_sweep.specs.ScriptLaws.{by-exit, two-grow}
+use Rattle.dist_line_write.specs.ScriptLaws.{by-exit, two-grow}
 use Rattle.dist_strong.proofs.SettleSteps.{memory-stops, settle-join, settle-none, settle-stops}
 use Rattle.dist_strong.proofs.settling.ask_candidates.Goals as goal
 

@@ -2,7 +2,7 @@ use Rattle.std.proofs.Common.{◌≡◌}
 use Rattle.dist_outside.specs.Files.{IsWriting}
 use Rattle.dist_strong.specs.Candidates.{AreCandidates}
 use Rattle.dist_strong.specs.Group.{open_count}
-use Rattle.dist_sweep.specs.Script.{Grows}
+use Rattle.dist_line_write.specs.Script.{Grows}
 use Rattle.dist_strong.specs.SettlingPrivate.{Fits, SettleMore}
 use Rattle.dist_strong.proofs.settling.ask_candidates.Given as goal
 

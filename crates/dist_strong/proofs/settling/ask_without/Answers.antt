@@ -3,14 +3,14 @@ use Rattle.dist_outside.specs.DeskView.{DeskView}
 use Rattle.dist_outside.specs.declared.trouble.WorkError.{WorkError}
 use Rattle.dist_outside.specs.declared.trouble.WorkError.TheVariants.{NoMemory}
 use Rattle.dist_cert.specs.Form.{Word}
+use Rattle.dist_line_write.specs.ScriptLaws.{by-exit}
 use Rattle.dist_sweep.specs.Asking.{Holds}
 use Rattle.dist_strong.specs.Candidates.{AreCandidates}
 use Rattle.dist_strong.specs.Group.{GroupView}
 use Rattle.dist_strong.specs.SettlingPrivate.{HasSizes, SettleStops, without}
 use Rattle.dist_sweep.specs.Window.{WindowView}
-use Rattle.dist_sweep.specs.declared.asker.Reply.{Reply}
-use Rattle.dist_sweep.specs.declared.asker.Reply.TheVariants as replies
-use Rattle.dist_sweep.specs.ScriptLaws.{by-exit}
+use Rattle.dist_sweep.specs.declared.asking.Reply.{Reply}
+use Rattle.dist_sweep.specs.declared.asking.Reply.TheVariants as replies
 use Rattle.dist_strong.proofs.SettleSteps.{added-some, ask-stops, has-claimed, fits-after, found-further, found-stops, lacks-other, leave-further, memory-stops}
 use Rattle.dist_strong.proofs.SettleSteps.{refute-further, settled-found, settled-refuted, settled-undecided}
 use Rattle.dist_strong.proofs.CandidateSteps.{struck-refuted, struck-undecided}
@@ -23,14 +23,14 @@ returns-in_err-question-clause-err g c =
     NoMemory c.from_residual.ensures.1
     (memory-stops c.file_grows.ensures.begin old c.args.asker.now c.args.window.now c.args.group.now)
 
-pub ask_with-requires-clause-shunned : goal.ask_with-requires-clause-shunned
-ask_with-requires-clause-shunned g c =
+pub ask-requires-clause-shunned : goal.ask-requires-clause-shunned
+ask-requires-clause-shunned g c =
     ap (λ (row : List Bool). length row) c.row.ensures ∙ c.requires.candidates.size ∙ sym c.requires.fits.variables
 
 pub returns-in_err-values-clause-err : goal.returns-in_err-values-clause-err
 returns-in_err-values-clause-err g c =
     let old : DeskView = g.D.Desk.view c.args.desk.now in
-    let new : DeskView = g.D.Desk.view c.ask_with.new.desk in
+    let new : DeskView = g.D.Desk.view c.ask.new.desk in
     let words = c.deref.ensures.value ∙ c.in_ok-question.ensures ∙ ap (λ (p : ℕ). without p c.args.other) c.claimed.ensures in
     by-exit (λ (r : Result (Unit {0}) WorkError). IfErr r (SettleStops old new c.args.asker.now c.args.window.now c.args.group.now))
     c.from_residual-in_err-values.result c.in_err-values.field-0.0 c.from_residual-in_err-values.ensures.1
@@ -40,23 +40,23 @@ returns-in_err-values-clause-err g c =
 pub returns-in_err-add-in-Found-clause-err : goal.returns-in_err-add-in-Found-clause-err
 returns-in_err-add-in-Found-clause-err g c =
     let old : DeskView = g.D.Desk.view c.args.desk.now in
-    let new : DeskView = g.D.Desk.view c.ask_with.new.desk in
+    let new : DeskView = g.D.Desk.view c.ask.new.desk in
     let words = c.deref.ensures.value ∙ c.in_ok-question.ensures ∙ ap (λ (p : ℕ). without p c.args.other) c.claimed.ensures in
     by-exit (λ (r : Result (Unit {0}) WorkError). IfErr r (SettleStops old new c.args.asker.now c.args.window.now c.args.group.now))
     c.from_residual-in_err-add-in-Found.result NoMemory c.from_residual-in_err-add-in-Found.ensures.1
-    (found-stops old new c.args.asker.now c.ask_with.new.self c.args.window.now c.args.group.now c.args.other c.deref.result.now c.in_ok-values.field-0 words
+    (found-stops old new c.args.asker.now c.ask.new.asker c.args.window.now c.args.group.now c.args.other c.deref.result.now c.in_ok-values.field-0 words
     c.in_ok-values.ensures.ok c.requires.candidate)
 
 pub returns-in-Found-clause-ok : goal.returns-in-Found-clause-ok
 returns-in-Found-clause-ok g c =
     let old : DeskView = g.D.Desk.view c.args.desk.now in
-    let new : DeskView = g.D.Desk.view c.ask_with.new.desk in
+    let new : DeskView = g.D.Desk.view c.ask.new.desk in
     let kept : GroupView = c.args.group.now in
     let words = c.deref.ensures.value ∙ c.in_ok-question.ensures ∙ ap (λ (p : ℕ). without p c.args.other) c.claimed.ensures in
     let holds = subst (λ (n : ℕ). Holds n (without kept.claimed c.args.other) (replies.Found c.in-Found.values)) c.requires.fits.variables
     (subst (λ (ws : List Word). Holds c.args.asker.now.log.variables ws (replies.Found c.in-Found.values)) words
     (subst (λ (r : Reply). Holds c.args.asker.now.log.variables c.deref.result.now r) c.in-Found.is c.in_ok-values.ensures.holds)) in
-    settled-found old new c.args.asker.now c.ask_with.new.self c.args.window.now c.add.new.window kept c.add.new.group c.args.other c.in-Found.values
+    settled-found old new c.args.asker.now c.ask.new.asker c.args.window.now c.add.new.window kept c.add.new.group c.args.other c.in-Found.values
     c.deref.result.now c.in_ok-values.field-0 words c.in-Found.is c.in_ok-values.ensures.ok
     c.requires.candidate holds c.add.ensures.rest c.add.ensures.size c.add.ensures.both c.in_ok-add-in-Found.ensures.window c.requires.fits.window
 
@@ -73,8 +73,8 @@ pub returns-in-Found-clause-fits : goal.returns-in-Found-clause-fits
 returns-in-Found-clause-fits g c =
     let kept : GroupView = c.args.group.now in
     let rest = c.add.ensures.rest in
-    fits-after c.args.asker.now c.ask_with.new.self c.args.window.now c.add.new.window kept c.add.new.group c.requires.fits c.ask_with.ensures.limit
-    c.ask_with.ensures.variables
+    fits-after c.args.asker.now c.ask.new.asker c.args.window.now c.add.new.window kept c.add.new.group c.requires.fits c.ask.ensures.limit
+    c.ask.ensures.variables
     (ap (λ (w : WindowView). w.variables) c.in_ok-add-in-Found.ensures.window) (ap (λ (k : GroupView). k.claimed) rest)
     (ap (λ (k : GroupView). k.variables) rest)
     (subst HasSizes (sym rest) (record { common = c.add.ensures.size; refuted = c.requires.fits.sizes.refuted; undecided = c.requires.fits.sizes.undecided }))
@@ -87,9 +87,9 @@ returns-in-Found-clause-fits g c =
 pub returns-in-Refuted-clause-ok : goal.returns-in-Refuted-clause-ok
 returns-in-Refuted-clause-ok g c =
     let old : DeskView = g.D.Desk.view c.args.desk.now in
-    let new : DeskView = g.D.Desk.view c.ask_with.new.desk in
+    let new : DeskView = g.D.Desk.view c.ask.new.desk in
     let words = c.deref.ensures.value ∙ c.in_ok-question.ensures ∙ ap (λ (p : ℕ). without p c.args.other) c.claimed.ensures in
-    settled-refuted old new c.args.asker.now c.ask_with.new.self c.args.window.now c.args.group.now c.refute.new.self c.args.other c.deref.result.now
+    settled-refuted old new c.args.asker.now c.ask.new.asker c.args.window.now c.args.group.now c.refute.new.self c.args.other c.deref.result.now
     c.in_ok-values.field-0 words c.in-Refuted.is c.in_ok-values.ensures.ok
     c.requires.candidate c.refute.ensures
 
@@ -100,8 +100,8 @@ returns-in-Refuted-clause-further g c =
 pub returns-in-Refuted-clause-fits : goal.returns-in-Refuted-clause-fits
 returns-in-Refuted-clause-fits g c =
     let kept : GroupView = c.args.group.now in
-    fits-after c.args.asker.now c.ask_with.new.self c.args.window.now c.args.window.now kept c.refute.new.self c.requires.fits c.ask_with.ensures.limit
-    c.ask_with.ensures.variables refl
+    fits-after c.args.asker.now c.ask.new.asker c.args.window.now c.args.window.now kept c.refute.new.self c.requires.fits c.ask.ensures.limit
+    c.ask.ensures.variables refl
     (ap (λ (k : GroupView). k.claimed) c.refute.ensures) (ap (λ (k : GroupView). k.variables) c.refute.ensures)
     (subst HasSizes (sym c.refute.ensures) (record {
       common = c.requires.fits.sizes.common;
@@ -112,9 +112,9 @@ returns-in-Refuted-clause-fits g c =
 pub returns-clause-ok : goal.returns-clause-ok
 returns-clause-ok g c =
     let old : DeskView = g.D.Desk.view c.args.desk.now in
-    let new : DeskView = g.D.Desk.view c.ask_with.new.desk in
+    let new : DeskView = g.D.Desk.view c.ask.new.desk in
     let words = c.deref.ensures.value ∙ c.in_ok-question.ensures ∙ ap (λ (p : ℕ). without p c.args.other) c.claimed.ensures in
-    settled-undecided old new c.args.asker.now c.ask_with.new.self c.args.window.now c.args.group.now c.leave.new.self c.args.other c.deref.result.now
+    settled-undecided old new c.args.asker.now c.ask.new.asker c.args.window.now c.args.group.now c.leave.new.self c.args.other c.deref.result.now
     c.in_ok-values.field-0 words c.in-Undecided.is c.in_ok-values.ensures.ok
     c.requires.candidate c.leave.ensures
 
@@ -125,8 +125,8 @@ returns-clause-further g c =
 pub returns-clause-fits : goal.returns-clause-fits
 returns-clause-fits g c =
     let kept : GroupView = c.args.group.now in
-    fits-after c.args.asker.now c.ask_with.new.self c.args.window.now c.args.window.now kept c.leave.new.self c.requires.fits c.ask_with.ensures.limit
-    c.ask_with.ensures.variables refl
+    fits-after c.args.asker.now c.ask.new.asker c.args.window.now c.args.window.now kept c.leave.new.self c.requires.fits c.ask.ensures.limit
+    c.ask.ensures.variables refl
     (ap (λ (k : GroupView). k.claimed) c.leave.ensures) (ap (λ (k : GroupView). k.variables) c.leave.ensures)
     (subst HasSizes (sym c.leave.ensures) (record {
       common = c.requires.fits.sizes.common;

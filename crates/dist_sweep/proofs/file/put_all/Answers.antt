@@ -2,8 +2,8 @@ use Rattle.std.proofs.Common.{List, Result, IfErr}
 use Rattle.dist_outside.specs.DeskView.{DeskView}
 use Rattle.dist_outside.specs.declared.trouble.WorkError.{WorkError}
 use Rattle.dist_cert.specs.declared.records.Claim.{Claim}
+use Rattle.dist_line_write.specs.ScriptLaws.{by-exit, two-grow}
 use Rattle.dist_sweep.specs.Sweeping.{SweepStops}
-use Rattle.dist_sweep.specs.ScriptLaws.{by-exit, two-grow}
 use Rattle.dist_sweep.proofs.SweepLines.{header-swept, sweep-end-stops, sweep-first, sweep-later, sweep-whole}
 use Rattle.dist_sweep.proofs.file.put_all.Goals as goal
 

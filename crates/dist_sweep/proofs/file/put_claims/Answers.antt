@@ -4,8 +4,8 @@ use Rattle.dist_outside.specs.Files.{IsWriting}
 use Rattle.dist_outside.specs.declared.trouble.WorkError.{WorkError}
 use Rattle.dist_outside.specs.declared.trouble.WorkError.TheVariants.{NoMemory}
 use Rattle.dist_cert.specs.declared.records.Claim.{Claim}
+use Rattle.dist_line_write.specs.ScriptLaws.{by-exit, two-grow}
 use Rattle.dist_sweep.specs.Sweeping.{ClaimsStop}
-use Rattle.dist_sweep.specs.ScriptLaws.{by-exit, two-grow}
 use Rattle.dist_sweep.proofs.SweepLines.{claims-memory, one-more, one-stops}
 use Rattle.dist_sweep.proofs.file.put_claims.Goals as goal
 

@@ -1,6 +1,6 @@
 use Rattle.std.proofs.Common.{◌≡◌, ◌≤◌, ℕ, length}
 use Rattle.dist_outside.specs.Files.{IsWriting}
-use Rattle.dist_sweep.specs.Script.{Grows}
+use Rattle.dist_line_write.specs.Script.{Grows}
 use Rattle.dist_sweep.specs.Sweeping.{ClaimsMore}
 use Rattle.dist_sweep.proofs.file.put_claims.Given as goal
 

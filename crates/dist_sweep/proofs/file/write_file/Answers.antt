@@ -2,35 +2,35 @@ use Rattle.std.proofs.Common.{◌∙◌, List, Result, ap, subst}
 use Rattle.dist_outside.specs.DeskView.{DeskView}
 use Rattle.dist_outside.specs.declared.trouble.WorkError.{WorkError}
 use Rattle.dist_cert.specs.declared.records.Claim.{Claim}
+use Rattle.dist_line_write.specs.ScriptLaws.{by-exit}
 use Rattle.dist_sweep.specs.Sweeping.{FileAnswers, SweepMore, SweepStops, new_window}
 use Rattle.dist_sweep.specs.Window.{WindowView}
-use Rattle.dist_sweep.specs.ScriptLaws.{by-exit}
 use Rattle.dist_sweep.proofs.SweptFile.{IsDone, file-closed, file-refused, file-stopped, file-whole}
 use Rattle.dist_sweep.proofs.file.write_file.Goals as goal
 
-pub returns-in_err-create : goal.returns-in_err-create
-returns-in_err-create g c =
+pub returns-in_err-create_file : goal.returns-in_err-create_file
+returns-in_err-create_file g c =
     let old : DeskView = g.D.Desk.view c.args.desk.now in
-    let new : DeskView = g.D.Desk.view c.create.new.desk in
+    let new : DeskView = g.D.Desk.view c.create_file.new.desk in
     by-exit (λ (r : Result (List Claim)
     WorkError). FileAnswers g.C.Claimant.keeps c.args.header.now c.args.asker.now c.args.claimant.now c.args.name.now old new r)
-    c.from_residual-in_err-create.result c.in_err-create.field-0.0 c.from_residual-in_err-create.ensures.1
+    c.from_residual-in_err-create_file.result c.in_err-create_file.field-0.0 c.from_residual-in_err-create_file.ensures.1
     (file-refused g.C.Claimant.keeps c.forms_are_clear.ensures c.args.name.now old new c.args.header.now c.args.asker.now c.args.claimant.now
-    c.in_err-create.field-0.0
-    c.in_err-create.ensures.err c.in_err-create.ensures.cause)
+    c.in_err-create_file.field-0.0
+    c.in_err-create_file.ensures.err c.in_err-create_file.ensures.cause)
 
 pub returns-in_err-made : goal.returns-in_err-made
 returns-in_err-made g c =
     let old : DeskView = g.D.Desk.view c.args.desk.now in
-    let mid : DeskView = g.D.Desk.view c.create.new.desk in
+    let mid : DeskView = g.D.Desk.view c.create_file.new.desk in
     let late : DeskView = g.D.Desk.view c.put_all-made.new.desk in
-    let new : DeskView = g.D.Desk.view c.close-closed.new.desk in
+    let new : DeskView = g.D.Desk.view c.close_file-closed.new.desk in
     let done : IsDone c.args.name.now old mid late new
     = record {
       more = c.file_holds.ensures.more;
       closing = c.file_holds.ensures.closed;
-      created = c.in_ok-create.ensures.ok;
-      closed = c.close-closed.ensures.closed;
+      created = c.in_ok-create_file.ensures.ok;
+      closed = c.close_file-closed.ensures.closed;
     } in
     by-exit (λ (r : Result (List Claim)
     WorkError). FileAnswers g.C.Claimant.keeps c.args.header.now c.args.asker.now c.args.claimant.now c.args.name.now old new r)
@@ -43,15 +43,15 @@ returns-in_err-made g c =
 pub returns-in_err-closed : goal.returns-in_err-closed
 returns-in_err-closed g c =
     let old : DeskView = g.D.Desk.view c.args.desk.now in
-    let mid : DeskView = g.D.Desk.view c.create.new.desk in
+    let mid : DeskView = g.D.Desk.view c.create_file.new.desk in
     let late : DeskView = g.D.Desk.view c.put_all-made.new.desk in
-    let new : DeskView = g.D.Desk.view c.close-closed.new.desk in
+    let new : DeskView = g.D.Desk.view c.close_file-closed.new.desk in
     let done : IsDone c.args.name.now old mid late new
     = record {
       more = c.file_holds.ensures.more;
       closing = c.file_holds.ensures.closed;
-      created = c.in_ok-create.ensures.ok;
-      closed = c.close-closed.ensures.closed;
+      created = c.in_ok-create_file.ensures.ok;
+      closed = c.close_file-closed.ensures.closed;
     } in
     by-exit (λ (r : Result (List Claim)
     WorkError). FileAnswers g.C.Claimant.keeps c.args.header.now c.args.asker.now c.args.claimant.now c.args.name.now old new r)
@@ -65,15 +65,15 @@ returns-in_err-closed g c =
 pub returns : goal.returns
 returns g c =
     let old : DeskView = g.D.Desk.view c.args.desk.now in
-    let mid : DeskView = g.D.Desk.view c.create.new.desk in
+    let mid : DeskView = g.D.Desk.view c.create_file.new.desk in
     let late : DeskView = g.D.Desk.view c.put_all-made.new.desk in
-    let new : DeskView = g.D.Desk.view c.close-closed.new.desk in
+    let new : DeskView = g.D.Desk.view c.close_file-closed.new.desk in
     let done : IsDone c.args.name.now old mid late new
     = record {
       more = c.file_holds.ensures.more;
       closing = c.file_holds.ensures.closed;
-      created = c.in_ok-create.ensures.ok;
-      closed = c.close-closed.ensures.closed;
+      created = c.in_ok-create_file.ensures.ok;
+      closed = c.close_file-closed.ensures.closed;
     } in
     file-whole g.C.Claimant.keeps c.forms_are_clear.ensures c.args.name.now old mid late new c.args.header.now c.args.asker.now c.args.claimant.now
     c.in_ok-made.made done

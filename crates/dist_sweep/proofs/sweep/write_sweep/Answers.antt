@@ -1,6 +1,6 @@
 use Rattle.std.proofs.Common.{◌<◌, ◌≤◌, ◌^◌, ap, sym, subst}
 use Rattle.dist_cert.specs.declared.records.Header.{Header}
-use Rattle.dist_sweep.specs.Asking.{AskerView}
+use Rattle.dist_line_write.specs.Asking.{AskerView}
 use Rattle.dist_sweep.proofs.Started.{IsGiven, may-begin}
 use Rattle.dist_sweep.proofs.sweep.write_sweep.Goals as goal
 

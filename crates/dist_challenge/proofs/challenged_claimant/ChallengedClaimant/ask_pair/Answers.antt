@@ -3,10 +3,10 @@ use Rattle.dist_outside.specs.DeskView.{DeskView}
 use Rattle.dist_outside.specs.declared.trouble.WorkError.{WorkError}
 use Rattle.dist_outside.specs.declared.trouble.WorkError.TheVariants.{NoMemory}
 use Rattle.dist_cert.specs.Form.{Word}
-use Rattle.dist_sweep.specs.Asking.{AskerView, IsOver}
-use Rattle.dist_sweep.specs.ScriptLaws.{by-exit}
+use Rattle.dist_line_write.specs.Asking.{AskerView, IsOver}
+use Rattle.dist_line_write.specs.ScriptLaws.{by-exit}
 use Rattle.dist_sweep.specs.Window.{WindowView}
-use Rattle.dist_sweep.specs.declared.asker.Reply.TheVariants as replies
+use Rattle.dist_sweep.specs.declared.asking.Reply.TheVariants as replies
 use Rattle.dist_covering.specs.Covering.{CoveringView}
 use Rattle.dist_challenge.specs.GroupPrivate.{FitsGroup, SettleMore, SettleStops, together}
 use Rattle.dist_covering.specs.Group.{GroupView}

@@ -3,7 +3,7 @@ use Rattle.std.proofs.lemmas.Bool.{true≢false}
 use Rattle.dist_outside.specs.DeskView.{DeskView}
 use Rattle.dist_outside.specs.Files.{IsWriting}
 use Rattle.dist_outside.specs.declared.trouble.WorkError.{WorkError}
-use Rattle.dist_sweep.specs.ScriptLaws.{by-exit, two-grow}
+use Rattle.dist_line_write.specs.ScriptLaws.{by-exit, two-grow}
 use Rattle.dist_challenge.specs.GroupPrivate.{FitsGroup, SettleMore, SettleStops}
 use Rattle.dist_covering.specs.Group.{GroupView}
 use Rattle.dist_challenge.proofs.SettleSteps.{settle-join, settle-none, settle-stops}

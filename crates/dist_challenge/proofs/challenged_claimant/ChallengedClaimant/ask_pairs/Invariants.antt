@@ -1,6 +1,6 @@
 use Rattle.std.proofs.Common.{◌≡◌, length, true}
 use Rattle.dist_outside.specs.Files.{IsWriting}
-use Rattle.dist_sweep.specs.Script.{Grows}
+use Rattle.dist_line_write.specs.Script.{Grows}
 use Rattle.dist_challenge.specs.GroupPrivate.{FitsGroup, SettleMore}
 use Rattle.dist_challenge.proofs.challenged_claimant.ChallengedClaimant.ask_pairs.Given as goal
 

@@ -3,9 +3,10 @@ use Rattle.dist_outside.specs.DeskView.{DeskView}
 use Rattle.dist_outside.specs.declared.trouble.WorkError.{WorkError}
 use Rattle.dist_outside.specs.declared.trouble.WorkError.TheVariants.{NoMemory}
 use Rattle.dist_cert.specs.ClaimRules.{yes}
+use Rattle.dist_line_write.specs.ScriptLaws.{by-exit}
 use Rattle.dist_sweep.specs.Asking.{AskStops}
-use Rattle.dist_sweep.specs.ScriptLaws.{by-exit, stops-for-memory}
-use Rattle.dist_sweep.specs.declared.asker.Reply.{Reply}
+use Rattle.dist_sweep.specs.ScriptLaws.{stops-for-memory}
+use Rattle.dist_sweep.specs.declared.asking.Reply.{Reply}
 use Rattle.dist_challenge.specs.GroupPrivate.{together}
 use Rattle.dist_challenge.proofs.challenged_claimant.ChallengedClaimant.ask_today.Goals as goal
 

@@ -5,9 +5,9 @@ use Rattle.dist_outside.specs.declared.trouble.WorkError.{WorkError}
 use Rattle.dist_outside.specs.declared.trouble.WorkError.TheVariants.{NoMemory}
 use Rattle.dist_cert.specs.declared.records.Claim.{Claim}
 use Rattle.dist_space.specs.Space.{IsSpace}
-use Rattle.dist_sweep.specs.Asking.{AskerView}
+use Rattle.dist_line_write.specs.Asking.{AskerView}
+use Rattle.dist_line_write.specs.ScriptLaws.{by-exit, two-grow}
 use Rattle.dist_sweep.specs.Claiming.{ClaimMore, ClaimStops}
-use Rattle.dist_sweep.specs.ScriptLaws.{by-exit, two-grow}
 use Rattle.dist_sweep.specs.Window.{WindowView}
 use Rattle.dist_challenge.specs.BegunPrivate.{BegunMore, BegunStops}
 use Rattle.dist_covering.specs.Planning.{IsTakenUp}

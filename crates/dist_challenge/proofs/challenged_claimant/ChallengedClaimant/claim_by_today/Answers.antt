@@ -7,11 +7,11 @@ use Rattle.dist_cert.specs.declared.records.CertRecord.TheVariants.{NotInstallab
 use Rattle.dist_cert.specs.declared.records.Claim.{Claim}
 use Rattle.dist_cert.specs.declared.records.Claim.TheVariants as claims
 use Rattle.dist_space.specs.Space.{SpaceView}
-use Rattle.dist_sweep.specs.Asking.{AskerView, IsOver}
+use Rattle.dist_line_write.specs.Asking.{AskerView, IsOver}
+use Rattle.dist_line_write.specs.ScriptLaws.{by-exit, two-grow}
 use Rattle.dist_sweep.specs.ClaimLinesLaws.{uninstallable-kind, unknown-kind}
-use Rattle.dist_sweep.specs.ScriptLaws.{by-exit, two-grow}
 use Rattle.dist_sweep.specs.Window.{WindowView}
-use Rattle.dist_sweep.specs.declared.asker.Reply.TheVariants as replies
+use Rattle.dist_sweep.specs.declared.asking.Reply.TheVariants as replies
 use Rattle.dist_challenge.specs.BegunPrivate.{BegunMore, BegunStops}
 use Rattle.dist_covering.specs.Covering.{CoveringView, IsAdded}
 use Rattle.dist_challenge.specs.GroupPrivate.{ChallengeMore, ChallengeStops}

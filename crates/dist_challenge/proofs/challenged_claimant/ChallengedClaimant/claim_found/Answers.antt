@@ -1,7 +1,7 @@
 use Rattle.std.proofs.Common.{ℕ, subst}
 use Rattle.std.proofs.lemmas.Result.{IfErr-weaker, IfOk-weaker}
 use Rattle.dist_outside.specs.DeskView.{DeskView}
-use Rattle.dist_sweep.specs.Asking.{AskerView}
+use Rattle.dist_line_write.specs.Asking.{AskerView}
 use Rattle.dist_sweep.specs.Claiming.{ClaimMore, ClaimStops}
 use Rattle.dist_sweep.specs.Window.{WindowView}
 use Rattle.dist_challenge.specs.BegunPrivate.{BegunMore, BegunStops}

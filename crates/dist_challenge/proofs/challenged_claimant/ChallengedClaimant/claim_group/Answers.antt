@@ -1,6 +1,6 @@
 use Rattle.std.proofs.lemmas.Result.{IfErr-weaker, IfOk-weaker}
 use Rattle.dist_outside.specs.DeskView.{DeskView}
-use Rattle.dist_sweep.specs.ScriptLaws.{two-grow}
+use Rattle.dist_line_write.specs.ScriptLaws.{two-grow}
 use Rattle.dist_challenge.specs.GroupPrivate.{ChallengeMore, ChallengeStops}
 use Rattle.dist_challenge.proofs.ChallengedSteps.{group-claimed, group-stops, ordered-fits}
 use Rattle.dist_challenge.proofs.challenged_claimant.ChallengedClaimant.claim_group.Goals as goal

@@ -4,9 +4,9 @@ use Rattle.dist_outside.specs.DeskView.{DeskView}
 use Rattle.dist_outside.specs.declared.trouble.WorkError.{WorkError}
 use Rattle.dist_outside.specs.declared.trouble.WorkError.TheVariants.{NoMemory}
 use Rattle.dist_cert.specs.declared.records.Claim.{Claim}
-use Rattle.dist_sweep.specs.Asking.{AskerView}
+use Rattle.dist_line_write.specs.Asking.{AskerView}
+use Rattle.dist_line_write.specs.ScriptLaws.{by-exit}
 use Rattle.dist_sweep.specs.Claiming.{ClaimMore, ClaimStops}
-use Rattle.dist_sweep.specs.ScriptLaws.{by-exit}
 use Rattle.dist_sweep.specs.Window.{WindowView}
 use Rattle.dist_covering.specs.Planning.{IsTakenUp}
 use Rattle.dist_covering.specs.Group.{group_of, GroupView}

@@ -6,12 +6,11 @@ use Rattle.dist_outside.specs.DeskView.{DeskView}
 use Rattle.dist_outside.specs.declared.trouble.WorkError.{WorkError}
 use Rattle.dist_outside.specs.declared.trouble.WorkError.TheVariants.{NoMemory}
 use Rattle.dist_solver.specs.declared.answers.Answer.{Answer}
-use Rattle.dist_sweep.specs.Asking.{AskerView, IsOver}
-use Rattle.dist_sweep.specs.ScriptLaws.{by-exit}
-use Rattle.dist_inquiry.specs.AnswerText.{NoteMore}
 use Rattle.dist_inquiry.specs.Asking.{AskStops}
-use Rattle.dist_inquiry.specs.Inquiry.{OnlyThis}
-use Rattle.dist_inquiry.specs.InquiryLaws.{stops-for-memory}
+use Rattle.dist_line_write.specs.Asking.{AskerView, IsOver}
+use Rattle.dist_line_write.specs.Script.{OnlyThis}
+use Rattle.dist_line_write.specs.ScriptLaws.{by-exit, stops-for-memory}
+use Rattle.dist_inquiry.specs.AnswerText.{NoteMore}
 use Rattle.dist_explain_search.specs.SearchPrivate.{explain_noting, question_of}
 use Rattle.dist_explain_search.proofs.QuestionLemmas.{question-over}
 use Rattle.dist_explain_search.proofs.search.ExplainSearch.ask.Goals as goal

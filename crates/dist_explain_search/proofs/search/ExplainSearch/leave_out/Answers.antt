@@ -6,10 +6,10 @@ use Rattle.dist_outside.specs.declared.trouble.WorkError.{WorkError}
 use Rattle.dist_outside.specs.declared.trouble.WorkError.TheVariants.{NoMemory}
 use Rattle.dist_solver.specs.declared.answers.Answer.{Answer}
 use Rattle.dist_solver.specs.declared.answers.Answer.TheVariants as answers
-use Rattle.dist_sweep.specs.Asking.{AskerView}
-use Rattle.dist_sweep.specs.ScriptLaws.{two-grow}
-use Rattle.dist_inquiry.specs.AnswerText.{NoteMore}
 use Rattle.dist_inquiry.specs.Asking.{AskStops}
+use Rattle.dist_line_write.specs.Asking.{AskerView}
+use Rattle.dist_line_write.specs.ScriptLaws.{two-grow}
+use Rattle.dist_inquiry.specs.AnswerText.{NoteMore}
 use Rattle.dist_explain.specs.NotesPrivate.{NotesView}
 use Rattle.dist_explain.specs.declared.asked.Asked.{Asked}
 use Rattle.dist_explain_search.specs.SearchPrivate.{AreNumbers, FitsAsked, Goes, GoesNot, HasJust, IsSmaller, Marks, explain_noting, others_of, question_of}

@@ -3,8 +3,8 @@ use Rattle.std.specs.Prelude.{Contains, MatchOption, IfSome}
 use Rattle.dist_outside.specs.DeskView.{DeskView}
 use Rattle.dist_outside.specs.Files.{IsWriting}
 use Rattle.dist_outside.specs.declared.trouble.WorkError.TheVariants.{NoMemory}
-use Rattle.dist_sweep.specs.Asking.{AskerView}
-use Rattle.dist_sweep.specs.ScriptLaws.{two-grow}
+use Rattle.dist_line_write.specs.Asking.{AskerView}
+use Rattle.dist_line_write.specs.ScriptLaws.{two-grow}
 use Rattle.dist_explain.specs.NotesPrivate.{NotesView}
 use Rattle.dist_explain.specs.declared.asked.Asked.{Asked}
 use Rattle.dist_explain_search.specs.SearchPrivate.{AreNumbers, Goes, GoesNot, IsAnsweredAt, IsSmaller, Marks, others_of}

@@ -1,7 +1,7 @@
 use Rattle.std.proofs.Common.{◌≡◌, ◌⊎◌, ℕ, ◌+◌, ◌*◌, ◌≤◌, [], length}
 use Rattle.std.specs.Prelude.{Contains}
 use Rattle.dist_outside.specs.Files.{IsWriting}
-use Rattle.dist_sweep.specs.Script.{Grows}
+use Rattle.dist_line_write.specs.Script.{Grows}
 use Rattle.dist_explain_search.specs.SearchPrivate.{AreNumbers, Goes, Marks}
 use Rattle.dist_explain_search.proofs.search.ExplainSearch.settle_core.Given as goal
 

@@ -9,13 +9,14 @@ use Rattle.dist_cert.specs.ClaimRules.{yes}
 use Rattle.dist_cert.specs.Form.{Word}
 use Rattle.dist_space.specs.Space.{variable_of}
 use Rattle.dist_space.specs.declared.meaning.Meaning.TheVariants.{Present}
-use Rattle.dist_sweep.specs.Asking.{AskerView, Holds}
+use Rattle.dist_line_write.specs.Asking.{AskerView}
+use Rattle.dist_line_write.specs.ScriptLaws.{by-exit, two-grow}
+use Rattle.dist_sweep.specs.Asking.{Holds}
 use Rattle.dist_sweep.specs.Claiming.{ClaimStops}
 use Rattle.dist_sweep.specs.ClaimLinesLaws.{unknown-kind}
-use Rattle.dist_sweep.specs.ScriptLaws.{by-exit, two-grow}
 use Rattle.dist_sweep.specs.Window.{WindowView}
-use Rattle.dist_sweep.specs.declared.asker.Reply.{Reply}
-use Rattle.dist_sweep.specs.declared.asker.Reply.TheVariants as replies
+use Rattle.dist_sweep.specs.declared.asking.Reply.{Reply}
+use Rattle.dist_sweep.specs.declared.asking.Reply.TheVariants as replies
 use Rattle.dist_outdated.specs.OutdatedPrivate.{KeepsOutdated, OutdatedView}
 use Rattle.dist_sweep.specs.AskedLaws.{ask-stops, ask-told, asked-memory, claim-behind, memory-stops, stops-behind, StopsFrom}
 use Rattle.dist_outdated.proofs.ClaimLines.{alive-kind, outdated-kind}
@@ -67,9 +68,9 @@ returns-in_err-number-in-Found-clause-err g c =
     by-exit (λ (r : Result Claim WorkError). IfErr r (ClaimStops KeepsOutdated c.args.package old mid a w self))
     c.from_residual-in_err-number-in-Found.result NoMemory c.from_residual-in_err-number-in-Found.ensures.1
     (stopped c.args.package old mid a w self NoMemory
-    (asked-memory (MayClaimOn a w self c.args.package) old mid c.ask.new.self (question_of self.space c.args.package) (replies.Found c.in-Found.values)
+    (asked-memory (MayClaimOn a w self c.args.package) old mid c.ask.new.asker (question_of self.space c.args.package) (replies.Found c.in-Found.values)
     c.file_grows.ensures.begin c.file_grows.ensures.twice
-    (ask-told (MayClaimOn a w self c.args.package) old mid a c.ask.new.self (question_of self.space c.args.package) c.deref.result.now c.in_ok-values.field-0
+    (ask-told (MayClaimOn a w self c.args.package) old mid a c.ask.new.asker (question_of self.space c.args.package) c.deref.result.now c.in_ok-values.field-0
     (replies.Found c.in-Found.values) (outdated-ready a w self c.args.package) words c.in-Found.is c.in_ok-values.ensures.ok)))
 
 -- what is told of an installation
@@ -92,13 +93,13 @@ returns-in_err-put-in-Found-clause-err g c =
     by-exit (λ (r : Result Claim WorkError). IfErr r (ClaimStops KeepsOutdated c.args.package old new a w self))
     c.from_residual-in_err-put-in-Found.result c.in_err-put-in-Found.field-0.0 c.from_residual-in_err-put-in-Found.ensures.1
     (stopped c.args.package old new a w self c.in_err-put-in-Found.field-0.0
-    (stops-behind (MayClaimOn a w self c.args.package) (KeptBy c.add.new.self) old mid new c.ask.new.self c.add.new.window
+    (stops-behind (MayClaimOn a w self c.args.package) (KeptBy c.add.new.self) old mid new c.ask.new.asker c.add.new.window
     (question_of self.space c.args.package) (replies.Found c.in-Found.values) (Alive c.args.package c.in_ok-number-in-Found.number)
     c.in_err-put-in-Found.field-0.0
     c.file_grows.ensures.twice
-    (ask-told (MayClaimOn a w self c.args.package) old mid a c.ask.new.self (question_of self.space c.args.package) c.deref.result.now c.in_ok-values.field-0
+    (ask-told (MayClaimOn a w self c.args.package) old mid a c.ask.new.asker (question_of self.space c.args.package) c.deref.result.now c.in_ok-values.field-0
     (replies.Found c.in-Found.values) (outdated-ready a w self c.args.package) words c.in-Found.is c.in_ok-values.ensures.ok)
-    (found-puts old mid a c.ask.new.self w c.add.new.window self c.add.new.self c.args.package c.in_ok-number-in-Found.number c.in-Found.values
+    (found-puts old mid a c.ask.new.asker w c.add.new.window self c.add.new.self c.args.package c.in_ok-number-in-Found.number c.in-Found.values
     c.variable-variable.ensures.space (omega arith) (omega arith) c.requires.suits c.requires.fits holds c.in_ok-number-in-Found.ensures.space
     c.in_ok-number-in-Found.ensures.number c.in_ok-number-in-Found.ensures.window c.in_ok-number-in-Found.ensures.noted)
     c.in_err-put-in-Found.ensures.err))
@@ -120,12 +121,12 @@ returns-in-Found-clause-ok g c =
     c.deref.ensures.value c.in_ok-question.ensures c.variable-variable.ensures.value in
     let holds = held a.log.variables (question_of self.space c.args.package) c.deref.result.now c.in_ok-values.field-0 (replies.Found c.in-Found.values) words
     c.in-Found.is c.in_ok-values.ensures.holds in
-    λ s before may keeps. claim-behind (MayClaimOn a w self c.args.package) (KeptBy c.add.new.self) old mid new c.ask.new.self c.put.new.self c.add.new.window
+    λ s before may keeps. claim-behind (MayClaimOn a w self c.args.package) (KeptBy c.add.new.self) old mid new c.ask.new.asker c.put.new.self c.add.new.window
     (question_of self.space c.args.package) (replies.Found c.in-Found.values) (Alive c.args.package c.in_ok-number-in-Found.number) claims.Alive
     c.file_grows.ensures.twice
-    (ask-told (MayClaimOn a w self c.args.package) old mid a c.ask.new.self (question_of self.space c.args.package) c.deref.result.now c.in_ok-values.field-0
+    (ask-told (MayClaimOn a w self c.args.package) old mid a c.ask.new.asker (question_of self.space c.args.package) c.deref.result.now c.in_ok-values.field-0
     (replies.Found c.in-Found.values) (outdated-ready a w self c.args.package) words c.in-Found.is c.in_ok-values.ensures.ok)
-    (found-puts old mid a c.ask.new.self w c.add.new.window self c.add.new.self c.args.package c.in_ok-number-in-Found.number c.in-Found.values
+    (found-puts old mid a c.ask.new.asker w c.add.new.window self c.add.new.self c.args.package c.in_ok-number-in-Found.number c.in-Found.values
     c.variable-variable.ensures.space (omega arith) (omega arith) c.requires.suits c.requires.fits holds c.in_ok-number-in-Found.ensures.space
     c.in_ok-number-in-Found.ensures.number c.in_ok-number-in-Found.ensures.window c.in_ok-number-in-Found.ensures.noted)
     (alive-kind c.args.package c.in_ok-number-in-Found.number) refl c.put.ensures.rest c.in_ok-put-in-Found.ensures.grew c.in_ok-put-in-Found.ensures.ok
@@ -149,12 +150,12 @@ returns-in_err-put-in-Refuted-clause-err g c =
     by-exit (λ (r : Result Claim WorkError). IfErr r (ClaimStops KeepsOutdated c.args.package old new a w self))
     c.from_residual-in_err-put-in-Refuted.result c.in_err-put-in-Refuted.field-0.0 c.from_residual-in_err-put-in-Refuted.ensures.1
     (stopped c.args.package old new a w self c.in_err-put-in-Refuted.field-0.0
-    (stops-behind (MayClaimOn a w self c.args.package) (KeptBy self) old mid new c.ask.new.self w
+    (stops-behind (MayClaimOn a w self c.args.package) (KeptBy self) old mid new c.ask.new.asker w
     (question_of self.space c.args.package) replies.Refuted (Outdated c.args.package) c.in_err-put-in-Refuted.field-0.0
     c.file_grows.ensures.twice
-    (ask-told (MayClaimOn a w self c.args.package) old mid a c.ask.new.self (question_of self.space c.args.package) c.deref.result.now c.in_ok-values.field-0
+    (ask-told (MayClaimOn a w self c.args.package) old mid a c.ask.new.asker (question_of self.space c.args.package) c.deref.result.now c.in_ok-values.field-0
     replies.Refuted (outdated-ready a w self c.args.package) words c.in-Refuted.is c.in_ok-values.ensures.ok)
-    (outdated-puts old mid a c.ask.new.self w self c.args.package (omega arith))
+    (outdated-puts old mid a c.ask.new.asker w self c.args.package (omega arith))
     c.in_err-put-in-Refuted.ensures.err))
 
 pub returns-in_err-put-in-Refuted-clause-grows : goal.returns-in_err-put-in-Refuted-clause-grows
@@ -172,11 +173,11 @@ returns-in-Refuted-clause-ok g c =
     let self : OutdatedView = c.args.self.now in
     let words = words-are c.deref.result.now c.in_ok-question.question.items c.variable-variable.result (variable_of self.space (Present (c.args.package - 1)))
     c.deref.ensures.value c.in_ok-question.ensures c.variable-variable.ensures.value in
-    λ s before may keeps. claim-behind (MayClaimOn a w self c.args.package) (KeptBy self) old mid new c.ask.new.self c.put-in-Refuted.new.self w
+    λ s before may keeps. claim-behind (MayClaimOn a w self c.args.package) (KeptBy self) old mid new c.ask.new.asker c.put-in-Refuted.new.self w
     (question_of self.space c.args.package) replies.Refuted (Outdated c.args.package) claims.Outdated c.file_grows.ensures.twice
-    (ask-told (MayClaimOn a w self c.args.package) old mid a c.ask.new.self (question_of self.space c.args.package) c.deref.result.now c.in_ok-values.field-0
+    (ask-told (MayClaimOn a w self c.args.package) old mid a c.ask.new.asker (question_of self.space c.args.package) c.deref.result.now c.in_ok-values.field-0
     replies.Refuted (outdated-ready a w self c.args.package) words c.in-Refuted.is c.in_ok-values.ensures.ok)
-    (outdated-puts old mid a c.ask.new.self w self c.args.package (omega arith))
+    (outdated-puts old mid a c.ask.new.asker w self c.args.package (omega arith))
     (outdated-kind c.args.package) refl c.put-in-Refuted.ensures.rest c.in_ok-put-in-Refuted.ensures.grew c.in_ok-put-in-Refuted.ensures.ok s before
     (record { may = may; keeps = keeps })
 
@@ -198,12 +199,12 @@ returns-in_err-put-in-Undecided-clause-err g c =
     by-exit (λ (r : Result Claim WorkError). IfErr r (ClaimStops KeepsOutdated c.args.package old new a w self))
     c.from_residual-in_err-put-in-Undecided.result c.in_err-put-in-Undecided.field-0.0 c.from_residual-in_err-put-in-Undecided.ensures.1
     (stopped c.args.package old new a w self c.in_err-put-in-Undecided.field-0.0
-    (stops-behind (MayClaimOn a w self c.args.package) (KeptBy self) old mid new c.ask.new.self w
+    (stops-behind (MayClaimOn a w self c.args.package) (KeptBy self) old mid new c.ask.new.asker w
     (question_of self.space c.args.package) replies.Undecided (Unknown c.args.package) c.in_err-put-in-Undecided.field-0.0
     c.file_grows.ensures.twice
-    (ask-told (MayClaimOn a w self c.args.package) old mid a c.ask.new.self (question_of self.space c.args.package) c.deref.result.now c.in_ok-values.field-0
+    (ask-told (MayClaimOn a w self c.args.package) old mid a c.ask.new.asker (question_of self.space c.args.package) c.deref.result.now c.in_ok-values.field-0
     replies.Undecided (outdated-ready a w self c.args.package) words c.in-Undecided.is c.in_ok-values.ensures.ok)
-    (unknown-puts old mid a c.ask.new.self w self c.args.package c.variable-variable.ensures.few)
+    (unknown-puts old mid a c.ask.new.asker w self c.args.package c.variable-variable.ensures.few)
     c.in_err-put-in-Undecided.ensures.err))
 
 pub returns-in_err-put-in-Undecided-clause-grows : goal.returns-in_err-put-in-Undecided-clause-grows
@@ -221,11 +222,11 @@ returns-clause-ok g c =
     let self : OutdatedView = c.args.self.now in
     let words = words-are c.deref.result.now c.in_ok-question.question.items c.variable-variable.result (variable_of self.space (Present (c.args.package - 1)))
     c.deref.ensures.value c.in_ok-question.ensures c.variable-variable.ensures.value in
-    λ s before may keeps. claim-behind (MayClaimOn a w self c.args.package) (KeptBy self) old mid new c.ask.new.self c.put-in-Undecided.new.self w
+    λ s before may keeps. claim-behind (MayClaimOn a w self c.args.package) (KeptBy self) old mid new c.ask.new.asker c.put-in-Undecided.new.self w
     (question_of self.space c.args.package) replies.Undecided (Unknown c.args.package) claims.Unknown c.file_grows.ensures.twice
-    (ask-told (MayClaimOn a w self c.args.package) old mid a c.ask.new.self (question_of self.space c.args.package) c.deref.result.now c.in_ok-values.field-0
+    (ask-told (MayClaimOn a w self c.args.package) old mid a c.ask.new.asker (question_of self.space c.args.package) c.deref.result.now c.in_ok-values.field-0
     replies.Undecided (outdated-ready a w self c.args.package) words c.in-Undecided.is c.in_ok-values.ensures.ok)
-    (unknown-puts old mid a c.ask.new.self w self c.args.package c.variable-variable.ensures.few)
+    (unknown-puts old mid a c.ask.new.asker w self c.args.package c.variable-variable.ensures.few)
     (unknown-kind c.args.package) refl c.put-in-Undecided.ensures.rest c.in_ok-put-in-Undecided.ensures.grew c.in_ok-put-in-Undecided.ensures.ok s before
     (record { may = may; keeps = keeps })
 

@@ -4,9 +4,9 @@ use Rattle.dist_outside.specs.declared.trouble.WorkError.{WorkError}
 use Rattle.dist_cert.specs.declared.records.CertRecord.TheVariants.{Alive}
 use Rattle.dist_cert.specs.declared.records.Claim.{Claim}
 use Rattle.dist_cert.specs.declared.records.Claim.TheVariants as claims
-use Rattle.dist_sweep.specs.Asking.{AskerView}
+use Rattle.dist_line_write.specs.Asking.{AskerView}
+use Rattle.dist_line_write.specs.ScriptLaws.{by-exit}
 use Rattle.dist_sweep.specs.Claiming.{ClaimStops}
-use Rattle.dist_sweep.specs.ScriptLaws.{by-exit}
 use Rattle.dist_sweep.specs.Window.{WindowView}
 use Rattle.dist_outdated.specs.OutdatedPrivate.{KeepsOutdated, OutdatedView}
 use Rattle.dist_sweep.specs.AskedLaws.{put-claim, put-stops}

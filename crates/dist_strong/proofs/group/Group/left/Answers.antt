@@ -5,7 +5,7 @@ use Rattle.std.proofs.lemmas.List.Elements.{All-push}
 use Rattle.dist_clause.specs.Formula.{value_of}
 use Rattle.dist_strong.specs.Group.{AreLeftUpto, GroupView, IsLeft}
 use Rattle.dist_sweep.specs.Window.{WindowView}
-use Rattle.dist_sweep.specs.LineLaws.{contains-last, contains-push, rising-push}
+use Rattle.dist_line_write.specs.LineLaws.{contains-last, contains-push, rising-push}
 use Rattle.dist_strong.proofs.group.Group.left.Goals as goal
 
 abbrev NoneBetween : WindowView → GroupView → ℕ → ℕ → Type 0

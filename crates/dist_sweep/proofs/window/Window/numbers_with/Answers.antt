@@ -2,7 +2,7 @@ use Rattle.std.proofs.Common.{◌≡◌, ◌+◌, ◌-◌, ◌∙◌, ◌++◌, 
 use Rattle.std.specs.List.{range_with_len}
 use Rattle.dist_clause.specs.Formula.{value_of}
 use Rattle.dist_sweep.specs.Window.{WindowView, kept_at}
-use Rattle.dist_sweep.proofs.Lists.{filter-from}
+use Rattle.dist_line_write.specs.RangeLaws.{filter-from}
 use Rattle.dist_sweep.proofs.window.Window.numbers_with.Goals as goal
 use Rattle.dist_sweep.proofs.window.Window.numbers_with.Goals.{then-has_at+in_ok-push, else-has_at}
 

@@ -1,5 +1,0 @@
-mod LiteralLemmas
-mod RangeLemmas
-mod MemberLemmas
-mod FutureLemmas
-mod Growth

@@ -1,8 +1,0 @@
-use Rattle.dist_cert.specs.declared.records.CertRecord.TheVariants.{Question}
-use Rattle.dist_inquiry.proofs.OneLine.{no-memory}
-use Rattle.dist_inquiry.proofs.asker.put_question.Goals as goal
-
-pub returns-in_err-literals-clause-err : goal.returns-in_err-literals-clause-err
-returns-in_err-literals-clause-err g c =
-    no-memory c.file_grows.ensures.begin c.args.writer.now (Question c.args.question.now) (g.D.Desk.view c.args.desk.now) c.from_residual.result
-    c.from_residual.ensures.1

@@ -1,0 +1,7 @@
+mod LiteralLemmas
+mod RangeLemmas
+mod MemberLemmas
+mod FutureLemmas
+mod Growth
+mod LineLemmas
+mod TextLemmas

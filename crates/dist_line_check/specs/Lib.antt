@@ -1,0 +1,11 @@
+pub mod Since
+pub mod Future
+pub mod Checker
+pub mod LinesAt
+pub mod FirstFaultLaws
+pub mod VerdictLaws
+pub mod ToldLaws
+pub mod ModelLaws
+pub mod LinesAtLaws
+pub mod Kinds
+pub mod Checked

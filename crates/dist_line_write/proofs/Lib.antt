@@ -1,0 +1,10 @@
+mod Lists
+mod Opened
+mod Lines
+mod OneLine
+mod DerivedLines
+mod Answered
+mod Closing
+mod Asked
+mod Refuted
+mod FirstLine

@@ -1,0 +1,8 @@
+use Rattle.dist_cert.specs.declared.records.CertRecord.TheVariants.{Question}
+use Rattle.dist_line_write.proofs.OneLine.{no-memory}
+use Rattle.dist_line_write.proofs.asker.put_question.Goals as goal
+
+pub returns-in_err-literals-clause-err : goal.returns-in_err-literals-clause-err
+returns-in_err-literals-clause-err g c =
+    no-memory c.file_grows.ensures.begin c.args.writer.now (Question c.args.question.now) (g.D.Desk.view c.args.desk.now) c.from_residual.result
+    c.from_residual.ensures.1
