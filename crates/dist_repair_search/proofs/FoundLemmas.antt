@@ -16,8 +16,11 @@ use Rattle.dist_findings.specs.SoundLaws.{IsSound}
 use Rattle.dist_findings.specs.declared.finding.Finding.{Finding}
 use Rattle.dist_findings.specs.declared.finding.Finding.TheVariants as finding
 use Rattle.dist_inquiry.specs.AnswerText.{finding_of}
-use Rattle.dist_inquiry.specs.Asking.{Says}
-use Rattle.dist_inquiry.specs.Inquiry.{Setting, matter_in}
+use Rattle.dist_line_write.specs.Asking.{Says, is_derived, question_lines}
+use Rattle.dist_line_write.specs.Script.{Script}
+use Rattle.dist_findings.specs.Unclaimed.{clauses_alone}
+use Rattle.dist_line_write.specs.TrueOnesLaws.{true-ones}
+use Rattle.dist_line_write.specs.Words.{closing_line, true_variables}
 use Rattle.dist_repair.specs.Answered.{Asked, AsksAlone, AsksAt, IsLower, beyond, installed_in, own}
 use Rattle.dist_repair.specs.QuestionLaws.{not-both}
 use Rattle.dist_repair.specs.Searched.{IsBegun, IsFoundAlone, IsFoundAt}
@@ -25,14 +28,11 @@ use Rattle.dist_solver.specs.declared.answers.Answer.{Answer}
 use Rattle.dist_solver.specs.declared.answers.Answer.TheVariants as answers
 use Rattle.dist_space.specs.Space.{SpaceView}
 use Rattle.dist_subject.specs.Installed.{ModelsStand}
-use Rattle.dist_sweep.specs.Asking.{is_derived, question_lines}
-use Rattle.dist_sweep.specs.TrueOnesLaws.{true-ones}
-use Rattle.dist_sweep.specs.Words.{closing_line, true_variables}
 
 -- ---- true findings
 
-pub finding-sound : (g : Setting) (question : List Word) (answer : Answer) → ModelsStand (matter_in g) → Says g question answer
-    → IsSound g.inputs.clauses 0 (finding_of question answer)
+pub finding-sound : (g : Script) (question : List Word) (answer : Answer) → ModelsStand (clauses_alone g.variables g.inputs) → Says g question answer
+    → IsSound g.inputs 0 (finding_of question answer)
 finding-sound g question (answers.Found values) stand (size, model, all) =
     (stand values (true_variables values) size model (true-ones values)).1
 finding-sound g question (answers.Refuted hints) stand says = λ value model all.
@@ -46,11 +46,11 @@ among-true values v from upto =
     both-flags (is_among (true_variables values) v) (value_of values v) (λ among. same.0 (from-any v (true_variables values) among))
     (λ holds. any-from v (true_variables values) (same.1 holds))
 
-module _ (s : SpaceView) (asked : Asked) (g : Setting) (from : 1 ≤ own s asked) (upto : own s asked ≤ g.inputs.variables) where
+module _ (s : SpaceView) (asked : Asked) (g : Script) (from : 1 ≤ own s asked) (upto : own s asked ≤ g.variables) where
   abbrev True : List Bool → List Word → Type 0
   True values question = All (IsTrueLiteral (value_of values)) (clause_of question)
 
-  own-true : (values : List Bool) → length values ≡ g.inputs.variables → value_of values (own s asked) ≡ true
+  own-true : (values : List Bool) → length values ≡ g.variables → value_of values (own s asked) ≡ true
       → is_among (true_variables values) (own s asked) ≡ true
   own-true values size holds = among-true values (own s asked) from (omega (arith, size, upto)) ∙ holds
 
@@ -62,8 +62,8 @@ module _ (s : SpaceView) (asked : Asked) (g : Setting) (from : 1 ≤ own s asked
   found-alone question (answers.Refuted hints) asks says = asks
   found-alone question answers.Undecided asks says = asks
 
-  module _ (j : ℕ) (low : 1 ≤ beyond s asked j) (high : beyond s asked j ≤ g.inputs.variables) where
-    off-false : (values : List Bool) → length values ≡ g.inputs.variables → value_of values (beyond s asked j) ≡ false
+  module _ (j : ℕ) (low : 1 ≤ beyond s asked j) (high : beyond s asked j ≤ g.variables) where
+    off-false : (values : List Bool) → length values ≡ g.variables → value_of values (beyond s asked j) ≡ false
         → is_among (true_variables values) (beyond s asked j) ≡ false
     off-false values size off = among-true values (beyond s asked j) low (omega (arith, size, high)) ∙ off
 

@@ -12,8 +12,9 @@ use Rattle.dist_findings.specs.SoundLaws.{IsSound}
 use Rattle.dist_findings.specs.declared.finding.Finding.{Finding}
 use Rattle.dist_inquiry.specs.AnswerText.{NoteMore}
 use Rattle.dist_inquiry.specs.Asking.{AskStops}
+use Rattle.dist_line_write.specs.Asking.{AskerView, IsOver}
+use Rattle.dist_line_write.specs.ScriptLaws.{stops-after, TwiceLaw, lines-more}
 use Rattle.dist_inquiry.specs.Inquiring.{MaySettle, SettleMore, SettleStops}
-use Rattle.dist_inquiry.specs.InquiryLaws.{stops-after}
 use Rattle.dist_outside.specs.DeskView.{DeskView, FileGrew}
 use Rattle.dist_outside.specs.declared.limits.Limits.{Limits}
 use Rattle.dist_outside.specs.declared.trouble.WorkError.{WorkError}
@@ -25,8 +26,6 @@ use Rattle.dist_solver.specs.declared.answers.Answer.{Answer}
 use Rattle.dist_space.specs.RisingLaws.{pairs-cons, pairs-none}
 use Rattle.dist_space.specs.Space.{IsSpace, SpaceView}
 use Rattle.dist_space_clauses.specs.SpaceClauses.{AreSpaceClauses}
-use Rattle.dist_sweep.specs.Asking.{AskerView, IsOver}
-use Rattle.dist_sweep.specs.ScriptLaws.{TwiceLaw, lines-more}
 use Rattle.dist_repair_search.specs.QuestionOrder.{repair_asks}
 use Rattle.dist_repair_search.specs.SearchPrivate.{AloneMore, AloneStops, AreOver, AreRight, ComesDown, ComesTo, DownTo, IsWrittenAt, LowerMore}
 use Rattle.dist_repair_search.specs.SearchPrivate.{LowerStops, MayLower, NextMore, NextStops, SearchMore, setting_at}
@@ -139,7 +138,7 @@ module _ (twice : TwiceLaw) (s : SpaceView) (w : WordsView) (n : NotesView) (old
   stops-further j m mid new b error to next undecided limits numbers basis right written =
       let first = to limits numbers basis right written in
       stops-after twice (setting_at s limits numbers basis) (repair_asks s numbers) [] first.more old mid new error first.grew
-      first.stands.written.asked
+      first.stands.written.asked first.stands.written.at.next
       (next limits numbers basis first.more right first.stands (undecided numbers (findings first.more) first.stands.written.noted))
 
   -- no question from a number on was opened
@@ -207,7 +206,8 @@ module _ (twice : TwiceLaw) (s : SpaceView) (w : WordsView) (n : NotesView) (old
     stops-down error next limits numbers basis right written =
         let first = to limits numbers basis right written in
         stops-after twice (setting_at s limits numbers basis) (repair_asks s numbers) [] first.more old mid new error first.grew
-        first.stands.written.asked (next limits numbers basis first.more from above right (may-lower limits numbers basis right written))
+        first.stands.written.asked first.stands.written.at.next
+        (next limits numbers basis first.more from above right (may-lower limits numbers basis right written))
 
   pub ends-down : (from above : ℕ) (m : NotesView) (mid : DeskView) (b : AskerView) → DownTo s w n old a from above m mid b
       → SearchMore s w n m old mid a b

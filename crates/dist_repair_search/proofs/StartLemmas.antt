@@ -12,7 +12,7 @@ use Rattle.dist_findings.specs.Answers.{IsAnswered}
 use Rattle.dist_findings.specs.Start.{HasRightNumbers}
 use Rattle.dist_inquiry.specs.AnswerText.{setting_of}
 use Rattle.dist_inquiry.specs.Inquiring.{MayInquire, course_of}
-use Rattle.dist_inquiry.specs.StartLaws.{heading-by, log-at-start, new_asker}
+use Rattle.dist_inquiry.specs.StartLaws.{alone-stand, heading-by, log-at-start, new_asker}
 use Rattle.dist_inquiry.specs.Written.{WrittenAnswers}
 use Rattle.dist_judge.specs.Causes.{IsLarge}
 use Rattle.dist_outside.specs.DeskView.{DeskView}
@@ -32,7 +32,7 @@ use Rattle.dist_repair.specs.declared.verdict.RepairHeader.{RepairHeader}
 use Rattle.dist_space.specs.Space.{IsSpace, SpaceView}
 use Rattle.dist_space.specs.VariableLaws.{variable-range}
 use Rattle.dist_space.specs.declared.meaning.Meaning.TheVariants.{Present}
-use Rattle.dist_sweep.specs.Asking.{AskerView}
+use Rattle.dist_line_write.specs.Asking.{AskerView}
 use Rattle.dist_repair_search.specs.QuestionOrder.{repair_asks}
 use Rattle.dist_repair_search.specs.SearchAnswers.{SearchAnswers, TellsFirst, first_numbers}
 use Rattle.dist_repair_search.specs.SearchPrivate.{AreOver, RunsSearch, TellsAnswer, WritesFile}
@@ -97,7 +97,8 @@ module _ (s : SpaceView) (h : RepairHeader) (limits : Limits) (set : ClauseList)
             within = inputs.within;
             fits = fits;
           };
-          log = log-at-start (repair_files s) limits (first_numbers s h (inputs_of set)) set h.limit over refl;
+          log = log-at-start (repair_files s) limits (first_numbers s h (inputs_of set)) set h.limit refl;
+          stand = alone-stand set.variables set.clauses over;
           writer = refl;
           keeps = subst Keeps is (words, noted);
         }))

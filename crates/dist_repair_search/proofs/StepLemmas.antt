@@ -12,8 +12,10 @@ use Rattle.dist_findings.specs.SoundLaws.{IsSound}
 use Rattle.dist_findings.specs.declared.finding.Finding.{Finding}
 use Rattle.dist_inquiry.specs.AnswerText.{IsAskedAndNoted, Noting, finding_of}
 use Rattle.dist_inquiry.specs.Asking.{AskStops}
-use Rattle.dist_inquiry.specs.Inquiry.{Setting, Stops}
-use Rattle.dist_inquiry.specs.InquiryLaws.{lines-asked, stops-asking}
+use Rattle.dist_line_write.specs.Asking.{AskerView, question_lines}
+use Rattle.dist_line_write.specs.Script.{Script, Stops}
+use Rattle.dist_line_write.specs.ScriptLaws.{lines-asked, stops-asking}
+use Rattle.dist_line_write.specs.Words.{closing_line}
 use Rattle.dist_outside.specs.DeskView.{DeskView}
 use Rattle.dist_outside.specs.declared.limits.Limits.{Limits}
 use Rattle.dist_outside.specs.declared.trouble.WorkError.{WorkError}
@@ -28,8 +30,6 @@ use Rattle.dist_space.specs.Space.{IsSpace, SpaceView}
 use Rattle.dist_space.specs.VariableLaws.{variable-range}
 use Rattle.dist_space.specs.declared.meaning.Meaning.TheVariants.{Present}
 use Rattle.dist_space_clauses.specs.SpaceClauses.{AreSpaceClauses}
-use Rattle.dist_sweep.specs.Asking.{AskerView, question_lines}
-use Rattle.dist_sweep.specs.Words.{closing_line}
 use Rattle.dist_repair_search.specs.QuestionOrder.{WasNotAsked, repair_asks}
 use Rattle.dist_repair_search.specs.SearchPrivate.{AreRight, ComesDown, ComesTo, IsWrittenAt, MayLower, StandsAt}
 use Rattle.dist_repair_search.specs.SearchPrivate.{setting_at}
@@ -45,7 +45,7 @@ none-found = refl
 
 module _ (s : SpaceView) (space : IsSpace s) (limits : Limits) (numbers : List ℕ) (basis : Inputs) (w : WordsView)
     (right : AreRight s limits numbers basis w) where
-  abbrev g : Setting
+  abbrev g : Script
   g = setting_at s limits numbers basis
 
   pub counted : AreCountedInputs s (most_of numbers) basis
@@ -85,7 +85,7 @@ module _ (s : SpaceView) (space : IsSpace s) (limits : Limits) (numbers : List �
 
     pub sound-more : All (IsSound basis.clauses 0) (findings before ++ its-finding ∷ [])
     sound-more = All-push (IsSound basis.clauses 0) (findings before) its-finding written.sound
-        (finding-sound g question answer written.at.log.stand done.asked.says)
+        (finding-sound g question answer written.at.stand done.asked.says)
 
     pub written-more : IsWrittenAt s limits numbers basis (before ++ its-lines) b m
     written-more = record {

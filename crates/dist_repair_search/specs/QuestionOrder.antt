@@ -3,7 +3,7 @@ use Rattle.std.specs.Prelude.{◌⊎◌, ℕ, ◌≤◌, List, Contains}
 use Rattle.dist_cert.specs.Form.{Word}
 use Rattle.dist_cert.specs.declared.records.CertRecord.{CertRecord}
 use Rattle.dist_cert.specs.declared.records.CertRecord.TheVariants.{Question}
-use Rattle.dist_inquiry.specs.Inquiry.{Asks}
+use Rattle.dist_line_write.specs.Script.{Asks}
 use Rattle.dist_repair.specs.Answered.{Asked, AsksAlone, AsksAt}
 use Rattle.dist_repair.specs.RepairFiles.{asked_by}
 use Rattle.dist_space.specs.Space.{SpaceView}

@@ -11,7 +11,7 @@ use Rattle.dist_outside.specs.declared.trouble.WorkError.TheVariants.{ReadFault,
 use Rattle.dist_findings.specs.AnswerFiles.{Inputs}
 use Rattle.dist_inquiry.specs.AnswerText.{setting_of}
 use Rattle.dist_inquiry.specs.Inquiring.{course_of}
-use Rattle.dist_inquiry.specs.Inquiry.{Setting}
+use Rattle.dist_line_write.specs.Script.{Script}
 use Rattle.dist_inquiry.specs.Written.{Course, IsFull, IsWholeText, LeavesCut}
 use Rattle.dist_repair.specs.RepairFiles.{AreCountedInputs, PassesWith, repair_files}
 use Rattle.dist_repair.specs.Verdicts.{IsRepair}
@@ -30,7 +30,7 @@ first_numbers s h basis = h.limit ∷ length s.repository.packages ∷ basis.var
     ∷ (h.«package» + 1) ∷ h.most ∷ []
 
 -- what is said of such a file, by what it is judged by
-abbrev pub OfRepair : SpaceView → RepairHeader → Limits → (Setting → Course → Type 0) → Type 0
+abbrev pub OfRepair : SpaceView → RepairHeader → Limits → (Script → Course → Type 0) → Type 0
 OfRepair s h limits P = (basis : Inputs) × AreCountedInputs s h.most basis
     × P (setting_of (repair_files s) limits basis (first_numbers s h basis))
     (course_of (repair_files s) (repair_asks s) (first_numbers s h basis))

@@ -8,8 +8,9 @@ use Rattle.dist_findings.specs.Findings.{findings}
 use Rattle.dist_findings.specs.SoundLaws.{IsSound}
 use Rattle.dist_inquiry.specs.AnswerText.{IsRightBasis, setting_of}
 use Rattle.dist_inquiry.specs.Asking.{IsAt}
+use Rattle.dist_line_write.specs.Asking.{AskerView}
+use Rattle.dist_line_write.specs.Script.{AreAsked, Script, Stops}
 use Rattle.dist_inquiry.specs.Inquiring.{MayInquire, course_of}
-use Rattle.dist_inquiry.specs.Inquiry.{AreAsked, Setting, Stops}
 use Rattle.dist_inquiry.specs.Written.{WrittenAnswers}
 use Rattle.dist_outside.specs.DeskView.{DeskView, FileGrew}
 use Rattle.dist_outside.specs.declared.limits.Limits.{Limits}
@@ -21,7 +22,6 @@ use Rattle.dist_repair.specs.RepairFiles.{IsDecided, asked_by, repair_files}
 use Rattle.dist_repair.specs.Searched.{IsBegun, IsBelowUpper}
 use Rattle.dist_repair.specs.declared.repair.Repair.{Repair}
 use Rattle.dist_space.specs.Space.{SpaceView}
-use Rattle.dist_sweep.specs.Asking.{AskerView}
 use Rattle.dist_repair_search.specs.QuestionOrder.{WasNotAsked, repair_asks}
 
 -- the variables of questions are different ones of so many
@@ -31,7 +31,7 @@ pub record AreOver (n : ℕ) (w : WordsView) : Type 0 where
   pub upto : w.first + w.most ≤ n
 
 -- what a file is written for
-abbrev pub setting_at : SpaceView → Limits → (numbers : List ℕ) → Inputs → Setting
+abbrev pub setting_at : SpaceView → Limits → (numbers : List ℕ) → Inputs → Script
 setting_at s limits numbers basis = setting_of (repair_files s) limits basis numbers
 
 -- The numbers of a first line are right, and these are the variables of its questions.

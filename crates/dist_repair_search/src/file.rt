@@ -15,9 +15,11 @@ ghost use Rattle.dist_subject.specs.Limited.{AreStated};
 ghost use Rattle.dist_repair_search.specs.SearchAnswers.{SearchAnswers, TellsFirst, first_numbers, header_with};
 
 use crate::search::RepairSearch;
+use crate::shunned::shunning;
 use dist_clause::ClauseSet;
 use dist_findings::Answering;
-use dist_inquiry::{Inquirer, write_inquiry};
+use dist_inquiry::write_inquiry;
+use dist_line_write::Asker;
 use dist_outside::{Desk, Limits, WorkError};
 use dist_repair::{Repair, Repairing, accepted_repairs_hold, repair_inputs, words_of};
 use dist_space::Space;
@@ -73,7 +75,7 @@ fn new_search<'a>(
 fn write_search<D: Desk>(
     alloc: Global,
     search: &mut RepairSearch<'_>,
-    inquirer: &mut Inquirer,
+    inquirer: &mut Asker,
     numbers: &[u32],
     desk: &mut D,
     name: &str,
@@ -101,6 +103,23 @@ fn answer_of(search: RepairSearch<'_>) -> Repair
     notes.answer()
 }
 
+/// An asker over these clauses, whose installations take few new versions, and those that atoms name before others.
+fn asker_over(
+    alloc: Global,
+    space: &Space,
+    set: ClauseSet,
+    limit: u32,
+    limits: &Limits,
+) -> Result<Asker, AllocError>
+    requires limits { AreStated limits.now }
+    ensures { IfOk result (λ asker. asker ≡ new_asker set limit limits.now) }
+{
+    let shunning = shunning(alloc, space)?;
+    let mut asker = Asker::new(alloc, set, limit, limits)?;
+    asker.shun(shunning);
+    Ok(asker)
+}
+
 /// Asks over these clauses, and writes the file of a search.
 fn run_search<D: Desk>(
     alloc: Global,
@@ -118,9 +137,7 @@ fn run_search<D: Desk>(
     requires fits { AreOver set.variables search.old.words }
     ensures { RunsSearch search.old.repairing.space.now search.old.words search.old.notes search.new.notes numbers.now (new_asker set limit limits.now) name.now (D.view desk.old) (D.view desk.new) result }
 {
-    // The archive as it is comes first, and the packages as they are behind it.
-    let front = search.repairing.space.package_count().saturating_add(1);
-    let mut inquirer = Inquirer::shunning(alloc, set, limit, limits, front)?;
+    let mut inquirer = asker_over(alloc, search.repairing.space, set, limit, limits)?;
     let done = write_search(alloc, search, &mut inquirer, numbers, desk, name);
     drop(inquirer);
     done

@@ -8,5 +8,6 @@
 
 mod file;
 mod search;
+mod shunned;
 
 pub use file::repair;

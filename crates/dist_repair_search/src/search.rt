@@ -1,7 +1,7 @@
 //! The questions.
 ghost use Rattle.std.specs.Prelude.{◌≡◌, ◌+◌, ◌<◌, ◌≤◌, List, IfErr, IfOk, IfSome, OnOk};
 ghost use Rattle.dist_outside.specs.Files.{IsWriting};
-ghost use Rattle.dist_sweep.specs.Script.{Grows};
+ghost use Rattle.dist_line_write.specs.Script.{Grows};
 ghost use Rattle.dist_space.specs.Space.{SpaceView};
 ghost use Rattle.dist_findings.specs.declared.finding.Finding.{Finding};
 ghost use Rattle.dist_repair.specs.Answered.{Asked};
@@ -10,7 +10,8 @@ ghost use Rattle.dist_repair.specs.Searched.{IsBelowUpper};
 ghost use Rattle.dist_repair_search.specs.SearchPrivate.{AloneMore, AloneStops, AreOver, DownTo, LowerMore, LowerStops, NextMore, NextStops, SearchMore};
 
 use dist_findings::Answering;
-use dist_inquiry::{Inquirer, Inquiring, ask_and_note};
+use dist_inquiry::{Inquiring, ask_and_note};
+use dist_line_write::Asker;
 use dist_outside::{Desk, WorkError, file_grows};
 use dist_repair::{Notes, Repairing, Words, questions_decide};
 
@@ -27,7 +28,7 @@ fn ask_alone<D: Desk>(
     repairing: &Repairing<'_>,
     words: &Words,
     notes: &mut Notes,
-    inquirer: &mut Inquirer,
+    inquirer: &mut Asker,
     desk: &mut D,
 ) -> Result<(), WorkError>
     requires writing { IsWriting (D.view desk.old).mode }
@@ -53,7 +54,7 @@ fn ask_at<D: Desk>(
     repairing: &Repairing<'_>,
     words: &Words,
     notes: &mut Notes,
-    inquirer: &mut Inquirer,
+    inquirer: &mut Asker,
     desk: &mut D,
     number: u32,
 ) -> Result<(), WorkError>
@@ -84,7 +85,7 @@ fn ask_up<D: Desk>(
     repairing: &Repairing<'_>,
     words: &Words,
     notes: &mut Notes,
-    inquirer: &mut Inquirer,
+    inquirer: &mut Asker,
     desk: &mut D,
 ) -> Result<u32, WorkError>
     requires writing { IsWriting (D.view desk.old).mode }
@@ -125,7 +126,7 @@ fn ask_all<D: Desk>(
     repairing: &Repairing<'_>,
     words: &Words,
     notes: &mut Notes,
-    inquirer: &mut Inquirer,
+    inquirer: &mut Asker,
     desk: &mut D,
 ) -> Result<(), WorkError>
     requires writing { IsWriting (D.view desk.old).mode }
@@ -174,7 +175,7 @@ impl<'a> Inquiring for RepairSearch<'a> {
         self.repairing.front()
     }
 
-    fn settle<D: Desk>(&mut self, inquirer: &mut Inquirer, desk: &mut D) -> Result<(), WorkError> {
+    fn settle<D: Desk>(&mut self, inquirer: &mut Asker, desk: &mut D) -> Result<(), WorkError> {
         questions_decide();
         ask_all(
             &self.repairing,

@@ -14,6 +14,41 @@ const TWO_LATER: &str =
 const ONE_SOURCE: &str =
     "Package: a\nVersion: 1\nSource: s\n\nPackage: b\nVersion: 1\nSource: s\n\nPackage: p\nVersion: 1\nDepends: a (= 2), b (= 2)\n";
 
+/// Five packages in each of three groups, of which a set may have one, and a package that wants five of them: two must move.
+const TWO_TOO_MANY: &str = "Package: a1\nVersion: 1\nProvides: a\nConflicts: a\n
+Package: a2\nVersion: 1\nProvides: a\nConflicts: a\n
+Package: a3\nVersion: 1\nProvides: a\nConflicts: a\n
+Package: a4\nVersion: 1\nProvides: a\nConflicts: a\n
+Package: a5\nVersion: 1\nProvides: a\nConflicts: a\n
+Package: b1\nVersion: 1\nProvides: b\nConflicts: b\n
+Package: b2\nVersion: 1\nProvides: b\nConflicts: b\n
+Package: b3\nVersion: 1\nProvides: b\nConflicts: b\n
+Package: b4\nVersion: 1\nProvides: b\nConflicts: b\n
+Package: b5\nVersion: 1\nProvides: b\nConflicts: b\n
+Package: c1\nVersion: 1\nProvides: c\nConflicts: c\n
+Package: c2\nVersion: 1\nProvides: c\nConflicts: c\n
+Package: c3\nVersion: 1\nProvides: c\nConflicts: c\n
+Package: c4\nVersion: 1\nProvides: c\nConflicts: c\n
+Package: c5\nVersion: 1\nProvides: c\nConflicts: c\n
+Package: p\nVersion: 1\nDepends: a1 | b1 | c1, a2 | b2 | c2, a3 | b3 | c3, a4 | b4 | c4, a5 | b5 | c5\n";
+
+/// What a hundred derived lines are enough for.
+const CLOSED: Row = Row {
+    words: &[
+        "repair",
+        "packages",
+        "cert",
+        "--package",
+        "p=1",
+        "--limit",
+        "100",
+    ],
+    packages: TWO_TOO_MANY,
+    out: "package p=1\nleast 2\nmove a1=1 to 1-0A\nmove a2=1 to 1-0A\n",
+    after: After::Begins("distfuture-repair 1 100 16 "),
+    ..REPAIRED
+};
+
 /// Two packages must move.
 const TWO_MOVE: Row = Row {
     packages: TWO_LATER,
@@ -42,6 +77,30 @@ const REPAIRS: &[Row] = &[
     },
     REPAIRED,
     TWO_MOVE,
+    CLOSED,
+    // With ten the upper bound is the least, and the lower one is not shown.
+    Row {
+        words: &[
+            "repair",
+            "packages",
+            "cert",
+            "--package",
+            "p=1",
+            "--limit",
+            "10",
+        ],
+        status: Status::DoneWithUndecided,
+        out: "package p=1\nat least 1\nundecided\nat most 2\nmove a1=1 to 1-0A\nmove a2=1 to 1-0A\n",
+        after: After::Begins("distfuture-repair 1 10 16 "),
+        ..CLOSED
+    },
+    // A version that an atom names comes before an invented one.
+    Row {
+        packages: "Package: p\nVersion: 1\nDepends: x (>> 1)\n\nPackage: q\nVersion: 1\nDepends: x (<< 3)\n\nPackage: x\nVersion: 1\n",
+        out: "package p=1\nleast 1\nmove x=1 to 3\n",
+        after: After::Begins("distfuture-repair 1 10000 3 "),
+        ..REPAIRED
+    },
     // Packages of one source move together.
     Row {
         packages: ONE_SOURCE,

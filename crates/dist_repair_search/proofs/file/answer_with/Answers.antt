@@ -4,7 +4,7 @@ use Rattle.dist_outside.specs.declared.trouble.WorkError.{WorkError}
 use Rattle.dist_outside.specs.declared.trouble.WorkError.TheVariants.{NoMemory}
 use Rattle.dist_inquiry.specs.StartLaws.{new_asker}
 use Rattle.dist_repair.specs.declared.repair.Repair.{Repair}
-use Rattle.dist_sweep.specs.ScriptLaws.{by-exit}
+use Rattle.dist_line_write.specs.ScriptLaws.{by-exit}
 use Rattle.dist_repair_search.specs.SearchPrivate.{TellsAnswer}
 use Rattle.dist_repair_search.proofs.StartLemmas.{tells-answer, tells-error}
 use Rattle.dist_repair_search.proofs.file.answer_with.Goals as goal

@@ -5,7 +5,7 @@ use Rattle.dist_outside.specs.DeskView.{DeskView}
 use Rattle.dist_outside.specs.declared.trouble.WorkError.{WorkError}
 use Rattle.dist_outside.specs.declared.trouble.WorkError.TheVariants.{NoMemory}
 use Rattle.dist_repair.specs.declared.repair.Repair.{Repair}
-use Rattle.dist_sweep.specs.ScriptLaws.{by-exit}
+use Rattle.dist_line_write.specs.ScriptLaws.{by-exit}
 use Rattle.dist_repair_search.specs.SearchAnswers.{SearchAnswers, TellsFirst, header_with}
 use Rattle.dist_repair_search.proofs.StartLemmas.{inputs-err, right-numbers, search-answers, search-says, tells-err, tells-ok, words-over}
 use Rattle.dist_repair_search.proofs.file.repair.Goals as goal

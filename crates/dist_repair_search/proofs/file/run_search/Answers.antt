@@ -3,8 +3,8 @@ use Rattle.dist_inquiry.specs.StartLaws.{new_asker}
 use Rattle.dist_outside.specs.DeskView.{DeskView}
 use Rattle.dist_outside.specs.declared.trouble.WorkError.{WorkError}
 use Rattle.dist_outside.specs.declared.trouble.WorkError.TheVariants.{NoMemory}
-use Rattle.dist_sweep.specs.Asking.{AskerView}
-use Rattle.dist_sweep.specs.ScriptLaws.{by-exit}
+use Rattle.dist_line_write.specs.Asking.{AskerView}
+use Rattle.dist_line_write.specs.ScriptLaws.{by-exit}
 use Rattle.dist_repair_search.specs.SearchPrivate.{AreOver, RunsSearch, WritesFile}
 use Rattle.dist_repair_search.proofs.file.run_search.Goals as goal
 

@@ -2,7 +2,7 @@ use Rattle.std.proofs.Common.{◌≡◌, ◌∙◌, ℕ, ◌+◌, Result, IfErr,
 use Rattle.dist_outside.specs.DeskView.{DeskView}
 use Rattle.dist_outside.specs.Files.{IsWriting}
 use Rattle.dist_outside.specs.declared.trouble.WorkError.{WorkError}
-use Rattle.dist_sweep.specs.ScriptLaws.{by-exit, two-grow}
+use Rattle.dist_line_write.specs.ScriptLaws.{by-exit, two-grow}
 use Rattle.dist_repair.specs.RepairFiles.{asked_by}
 use Rattle.dist_repair_search.specs.SearchPrivate.{AloneStops, AreOver, DownTo}
 use Rattle.dist_repair_search.proofs.SearchLemmas.{comes-down, ends-down, stops-down}

@@ -1,7 +1,7 @@
 use Rattle.std.proofs.Common.{◌≡◌, ◌+◌, ◌≤◌}
 use Rattle.dist_outside.specs.Files.{IsWriting}
 use Rattle.dist_repair_search.specs.SearchPrivate.{DownTo}
-use Rattle.dist_sweep.specs.Script.{Grows}
+use Rattle.dist_line_write.specs.Script.{Grows}
 use Rattle.dist_repair_search.proofs.search.ask_all.Given as goal
 
 abbrev pub invariant-loop : goal.invariant-loop

@@ -1,7 +1,7 @@
 use Rattle.std.proofs.Common.{Result, IfErr}
 use Rattle.dist_outside.specs.DeskView.{DeskView}
 use Rattle.dist_outside.specs.declared.trouble.WorkError.{WorkError}
-use Rattle.dist_sweep.specs.ScriptLaws.{by-exit}
+use Rattle.dist_line_write.specs.ScriptLaws.{by-exit}
 use Rattle.dist_repair_search.specs.SearchPrivate.{LowerStops, NextStops}
 use Rattle.dist_repair_search.proofs.SearchLemmas.{at-over, lower-more, lower-stops, next-more, next-stops}
 use Rattle.dist_repair_search.proofs.search.ask_at.Goals as goal

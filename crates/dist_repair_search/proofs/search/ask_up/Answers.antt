@@ -3,7 +3,7 @@ use Rattle.dist_outside.specs.DeskView.{DeskView}
 use Rattle.dist_outside.specs.Files.{IsWriting}
 use Rattle.dist_outside.specs.declared.trouble.WorkError.{WorkError}
 use Rattle.std.proofs.lemmas.Bool.{false≢true}
-use Rattle.dist_sweep.specs.ScriptLaws.{by-exit, two-grow}
+use Rattle.dist_line_write.specs.ScriptLaws.{by-exit, two-grow}
 use Rattle.dist_repair_search.specs.SearchPrivate.{AloneStops, AreOver, DownTo}
 use Rattle.dist_repair_search.proofs.SearchLemmas.{comes-further, ends-decided, ends-last, stops-further}
 use Rattle.dist_repair_search.proofs.search.ask_up.Goals as goal

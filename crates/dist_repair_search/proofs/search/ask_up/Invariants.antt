@@ -1,6 +1,6 @@
 use Rattle.std.proofs.Common.{◌≡◌}
 use Rattle.dist_outside.specs.Files.{IsWriting}
-use Rattle.dist_sweep.specs.Script.{Grows}
+use Rattle.dist_line_write.specs.Script.{Grows}
 use Rattle.dist_repair_search.proofs.SearchLemmas.{SearchTo}
 use Rattle.dist_repair_search.proofs.search.ask_up.Given as goal
 
