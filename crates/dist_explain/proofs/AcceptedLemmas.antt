@@ -23,6 +23,7 @@ use Rattle.dist_explain.specs.declared.asked.Asked.{Asked}
 use Rattle.dist_explain.specs.declared.explained.Explained.{Explained}
 use Rattle.dist_explain.specs.declared.explained.Explained.TheVariants.{Installable, Undecided, Broken}
 use Rattle.dist_explain.proofs.ConeLemmas.{IsUpto, hard-bound}
+use Rattle.dist_explain.proofs.ConnectedLemmas.{connected}
 use Rattle.dist_explain.proofs.MeaningLemmas.{IsAsked, Known, clauses-in-range, installed-healthy, refuted-explains}
 use Rattle.dist_explain.proofs.MeaningLemmas.{shown-needed}
 use Rattle.dist_findings.specs.SoundLaws.{IsSound}
@@ -102,9 +103,10 @@ module _ (r : PackageList) (relations : List Demand) (clauses : List (List Liter
   broken : (needed undecided numbers : List ℕ) (later : List Finding) → AreLast asked found numbers later
       → AreDecided asked numbers later needed undecided → IsBroken r p needed undecided relations
   broken needed undecided numbers later last decided = record {
-    explain = explain-same r relations p numbers (needed ++ undecided) (λ one. (same one).0) explain;
-    needed_are = all-contained (IsNeeded r relations p (needed ++ undecided)) needed (λ one there.
-        needed-same r relations p numbers (needed ++ undecided) one (λ n. (same n).1) (by one ((decided.needed_are one).0 there)));
+    explain = together;
+    needed_are = each;
+    connected = connected r relations (record { are = known.are; members = known.members; values = known.values }) p needed (needed ++ undecided)
+        together each;
     in_range = all-contained (λ n. (1 ≤ n) × (n ≤ length relations)) (needed ++ undecided) (λ n there.
         let range = All-contains (IsOfRelation asked) numbers n last.selects.in_range ((same n).1 there) in
         let count = is.relation_count in (range.0, omega (arith, range.1, count)));
@@ -136,6 +138,13 @@ module _ (r : PackageList) (relations : List Demand) (clauses : List (List Liter
 
       by : (one : ℕ) → Any (ShowsNeeded asked numbers one) later → IsNeeded r relations p numbers one
       by one any = by-finding one any.1 (any-there (ShowsNeeded asked numbers one) later any) any.4
+
+      together : Explain r relations p (needed ++ undecided)
+      together = explain-same r relations p numbers (needed ++ undecided) (λ one. (same one).0) explain
+
+      each : All (IsNeeded r relations p (needed ++ undecided)) needed
+      each = all-contained (IsNeeded r relations p (needed ++ undecided)) needed (λ one there.
+          needed-same r relations p numbers (needed ++ undecided) one (λ n. (same n).1) (by one ((decided.needed_are one).0 there)))
 
   installable : (f : Finding) → Contains found f → ShowsAll asked f → IsTrueOf r relations p Installable
   installable (finding.Installed members) there all =

@@ -10,7 +10,7 @@ use Rattle.dist_derive.specs.Cone.{InCone}
 use Rattle.dist_cert.specs.Form.{Word}
 use Rattle.dist_cert.specs.Groups.{clause_of}
 use Rattle.dist_cert.specs.ListLaws.{contains-cases, contains-later}
-use Rattle.dist_check_state.specs.ToldLaws.{IsTold, either-way, most-told, stable}
+use Rattle.dist_line_check.specs.ToldLaws.{IsTold, either-way, most-told, stable}
 use Rattle.dist_findings.specs.SoundLaws.{IsSound}
 use Rattle.dist_findings.specs.declared.finding.Finding.TheVariants as finding
 

@@ -23,8 +23,8 @@ use Rattle.dist_subject.specs.Basis.{Today}
 use Rattle.dist_subject.specs.Inputs.{AreInputsOf}
 use Rattle.dist_now.specs.PresentClauses.{ArePresentClauses, Demand}
 use Rattle.dist_now.specs.Relations.{AreRelations}
-use Rattle.dist_check_state.specs.ModelLaws.{WhatFollows, sound-rule}
-use Rattle.dist_check_state.specs.ToldLaws.{most-told, stable}
+use Rattle.dist_line_check.specs.ModelLaws.{WhatFollows, sound-rule}
+use Rattle.dist_line_check.specs.ToldLaws.{most-told, stable}
 use Rattle.dist_explain.specs.Answered.{Answers, AreAnswered}
 use Rattle.dist_explain.specs.ExplanationFiles.{AreNumbersFor, AreSelectedInputs, asked_by, explanation_files}
 use Rattle.dist_explain.specs.ExplanationFiles.{number_at}

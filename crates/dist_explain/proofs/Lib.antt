@@ -11,3 +11,5 @@ pub mod FileLemmas
 pub mod RelationLists
 pub mod InputLemmas
 pub mod OneExplanation
+pub mod Verdicts
+pub mod ConnectedLemmas

@@ -20,7 +20,7 @@ use Rattle.dist_now.specs.Members.{members_of}
 use Rattle.dist_now.specs.PresentClauses.{Apart, AreNumbersOf, Demand, IsClauseFor, IsDemand, IsMetBy, Item, Required}
 use Rattle.dist_now.specs.PresentClauses.{installed, not_installed}
 use Rattle.dist_now.specs.PresentLaws.{AreModelsInstallations}
-use Rattle.dist_now.specs.Relations.{AreMembersByValues, AreRelations, HaveClauses}
+use Rattle.dist_now.specs.Relations.{AreMembersByValues, AreOf, AreRelations, AreValuesOf, HaveClauses}
 use Rattle.dist_subject.specs.MemberLaws.{value-among}
 use Rattle.dist_subject.specs.Present.{truth_of}
 use Rattle.dist_subject.specs.TruthLaws.{truth-length}
@@ -81,6 +81,7 @@ pub record Known (r : PackageList) (relations : List Demand) (clauses : List (Li
   pub are : AreRelations r relations
   pub have : HaveClauses r relations clauses
   pub members : (values : List Bool) → AreMembersByValues r values
+  pub values : (members : List Package) → AreOf r members → (values : List Bool) × AreValuesOf r members values
   pub models : (values : List Bool) → AreModelsBySelectors r relations clauses values
   pub explained : AreExplainedByNoModel r relations clauses
   pub healthy : AreModelsInstallations r false clauses

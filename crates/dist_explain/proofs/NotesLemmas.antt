@@ -27,7 +27,7 @@ use Rattle.dist_explain.specs.NotesPrivate.{MarksOpen, MarksShown, NotesView, ar
 use Rattle.dist_explain.specs.declared.asked.Asked.{Asked}
 use Rattle.dist_explain.specs.declared.explained.Explained.{Explained}
 use Rattle.dist_explain.specs.declared.explained.Explained.TheVariants.{Installable, Undecided, Broken}
-use Rattle.dist_check_state.specs.ToldLaws.{IsTold, all-told, bool-told, number-told, stable}
+use Rattle.dist_line_check.specs.ToldLaws.{IsTold, all-told, bool-told, number-told, stable}
 use Rattle.dist_explain.specs.AnsweredLaws.{any-push, kept, last-more, last-new, none-any, none-more, selects-one}
 use Rattle.dist_findings.specs.declared.finding.Finding.{Finding}
 use Rattle.dist_findings.specs.declared.finding.Finding.TheVariants as finding

@@ -51,7 +51,7 @@ decided-same asked numbers later needed undecided also left first second = (
       (λ k. (λ there. (second.undecided_are k).1 ((first.undecided_are k).0 there), λ there. (first.undecided_are k).1 ((second.undecided_are k).0 there))),
 )
 
-one-found : (asked : Asked) (found : List Finding) (one other : Explained) → asked.number ≤ asked.packages → Answers asked found one
+pub one-found : (asked : Asked) (found : List Finding) (one other : Explained) → asked.number ≤ asked.packages → Answers asked found one
     → Answers asked found other → other ≡ one
 one-found asked found Installable Installable upto x y = refl
 one-found asked found Installable Undecided upto x y = absurd (y.1 x.1)
@@ -83,7 +83,7 @@ module _ (laws : Numbers) (r : PackageList) (ordered : IsInOrder r.packages) (li
   present : Present
   present = record { same = laws.present; kept = laws.kept }
 
-  one-basis : (basis other : Inputs) → IsSelectedOf r basis → IsSelectedOf r other → other ≡ basis
+  pub one-basis : (basis other : Inputs) → IsSelectedOf r basis → IsSelectedOf r other → other ≡ basis
   one-basis basis other first second =
       let same = laws.present r false first.clauses second.clauses first.are_clauses second.are_clauses in
       ap₂ (λ (v : ℕ) (cs : List (List Literal)). record { variables = v; clauses = cs })

@@ -17,7 +17,7 @@ use Rattle.dist_judge.specs.ClearKindLaws.{IsClear}
 use Rattle.dist_judge.specs.FileKind.{rules_of}
 use Rattle.dist_judge.specs.HeadingLaws.{heading_begins}
 use Rattle.dist_judge.specs.WholeLaws.{whole_ended, whole_faultless}
-use Rattle.dist_check_state.specs.ModelLaws.{IsSoundRule}
+use Rattle.dist_line_check.specs.ModelLaws.{IsSoundRule}
 use Rattle.dist_findings.specs.AnswerFiles.{AnswerFile, Inputs, files_of, limit_of}
 use Rattle.dist_findings.specs.FindingLaws.{findings_push, open_after}
 use Rattle.dist_findings.specs.Findings.{findings, found_at}

@@ -7,14 +7,15 @@ use Rattle.dist_outside.specs.declared.trouble.What.TheVariants.{Variables, Clau
 use Rattle.dist_outside.specs.declared.trouble.WorkError.TheVariants.{ReadFault, TooLarge, NoMemory}
 use Rattle.dist_cert.specs.declared.faults.ReadCertError.TheVariants.{Bad, Work}
 use Rattle.dist_cert.specs.Rising.{AreRising}
-use Rattle.dist_judge.specs.Judging.{StopsWith}
+use Rattle.dist_cert.specs.declared.records.CertRecord.{CertRecord}
+use Rattle.dist_judge.specs.Judging.{IsAccepted, IsRefused, StopsWith}
 use Rattle.dist_repo.specs.PackageList.{PackageList, IsPackageAnd}
 use Rattle.dist_repo.specs.Strong.{IsInstallable}
 use Rattle.dist_repo.specs.declared.package.Package.{Package}
 use Rattle.dist_now.specs.PresentClauses.{Demand}
 use Rattle.dist_now.specs.Relations.{AreRelations}
 use Rattle.dist_explain.specs.Answered.{Answers}
-use Rattle.dist_explain.specs.Explanation.{Explain, IsNeeded}
+use Rattle.dist_explain.specs.Explanation.{AreConnected, Explain, IsNeeded}
 use Rattle.dist_explain.specs.ExplanationFiles.{PassesFirst, asked_by, explanation_files, number_at}
 use Rattle.dist_explain.specs.declared.explained.Explained.{Explained}
 use Rattle.dist_explain.specs.declared.explained.Explained.TheVariants.{Installable, Undecided, Broken}
@@ -23,6 +24,7 @@ use Rattle.dist_explain.specs.declared.verdict.ExplainVerdict.{ExplainVerdict}
 use Rattle.dist_explain.specs.declared.verdict.ExplainVerdict.TheVariants.{Accepted, Refused}
 use Rattle.dist_findings.specs.AnswerFiles.{files_of}
 use Rattle.dist_findings.specs.Answers.{IsAnswered}
+use Rattle.dist_findings.specs.Findings.{findings}
 
 -- ---- of a text
 
@@ -35,6 +37,15 @@ header_by numbers = record { limit = number_at 0 numbers; «package» = number_a
 abbrev pub IsExplanation : PackageList → Limits → List ℕ → ExplainHeader → Explained → Type 0
 IsExplanation r limits text h explained = (numbers : List ℕ) × (h ≡ header_by numbers)
     × IsAnswered (explanation_files r) limits text numbers (λ found. Answers (asked_by numbers) found explained)
+
+-- Of a text, whatever numbers it passes: its lines have no fault, and the answer is what they find; or it has a first
+-- fault.
+abbrev pub IsExplainVerdict : PackageList → Limits → List ℕ → ExplainVerdict → Type 0
+IsExplainVerdict r limits text (Accepted h explained) = (numbers : List ℕ) × (h ≡ header_by numbers) × (steps : List
+    CertRecord)
+    × IsAccepted (files_of (explanation_files r)) limits text numbers steps × Answers (asked_by numbers) (findings
+    steps) explained
+IsExplainVerdict r limits text (Refused fault) = IsRefused (files_of (explanation_files r)) limits text fault
 
 -- When each answer is given. A fault of the desk and want of memory may come in place of any.
 abbrev pub ExplanationAnswers : PackageList → Limits → List ℕ → Result ExplainVerdict WorkError → Type 0
@@ -59,10 +70,11 @@ IsOfText result = Unit {0}
 
 -- ---- what is true
 
--- Together the relations explain the package, and each of the first list is needed.
+-- Together the relations explain the package, each of the first list is needed, and they hang together.
 pub record IsBroken (r : PackageList) (p : Package) (needed undecided : List ℕ) (relations : List Demand) : Type 0 where
   pub explain : Explain r relations p (needed ++ undecided)
   pub needed_are : All (IsNeeded r relations p (needed ++ undecided)) needed
+  pub connected : AreConnected r relations p needed (needed ++ undecided)
   pub in_range : All (λ number. (1 ≤ number) × (number ≤ length relations)) (needed ++ undecided)
   pub needed_rise : AreRising needed
   pub undecided_rise : AreRising undecided

@@ -1,5 +1,5 @@
 //! What clauses with selectors mean, and what an accepted file proves. The functions do nothing.
-ghost use Rattle.std.specs.Prelude.{◌≡◌, ◌≤◌, All, Bool, List, Result, false, ℕ};
+ghost use Rattle.std.specs.Prelude.{◌≡◌, ◌≤◌, All, Bool, List, Ok, Result, false, ℕ};
 ghost use Rattle.dist_outside.specs.declared.limits.Limits.{Limits};
 ghost use Rattle.dist_outside.specs.declared.trouble.What.{What};
 ghost use Rattle.dist_outside.specs.declared.trouble.WorkError.{WorkError};
@@ -12,17 +12,20 @@ ghost use Rattle.dist_explain.specs.Answered.{AreAnswered, AreLast};
 ghost use Rattle.dist_explain.specs.NotesPrivate.{AreNotesOf, IsMarkedIn, NotesView};
 ghost use Rattle.dist_explain.specs.ExplanationFiles.{PassesFirst};
 ghost use Rattle.dist_explain.specs.Selectors.{AreExplainedByNoModel, AreModelsBySelectors};
-ghost use Rattle.dist_explain.specs.Verdicts.{AcceptedMeans, ExplanationAnswers, IsExplanation, IsOfText};
+ghost use Rattle.dist_explain.specs.Verdicts.{AcceptedMeans, ExplanationAnswers, IsExplainVerdict, IsExplanation, IsOfText};
 ghost use Rattle.dist_explain.specs.declared.asked.Asked.{Asked};
 ghost use Rattle.dist_explain.specs.declared.explained.Explained.{Explained};
 ghost use Rattle.dist_explain.specs.declared.verdict.ExplainHeader.{ExplainHeader};
+ghost use Rattle.dist_cert.specs.declared.faults.CertFault.{CertFault};
 ghost use Rattle.dist_explain.specs.declared.verdict.ExplainVerdict.{ExplainVerdict};
+ghost use Rattle.dist_explain.specs.declared.verdict.ExplainVerdict.TheVariants.{Accepted, Refused};
 ghost use Rattle.dist_findings.specs.declared.finding.Finding.{Finding};
 
 use dist_cert::forms_are_clear;
 use dist_derive::{lines_keep_models, new_lines_are_few};
 use dist_now::{
-    demands_tell_health, models_are_installations, present_clauses_are_one, relations_have_clauses,
+    demands_tell_health, models_are_installations, present_clauses_are_one,
+    present_clauses_are_there, relations_have_clauses,
 };
 use dist_subject::first_numbers_are_one;
 
@@ -66,6 +69,22 @@ pub fn explanations_have_one_answer()
         → PassesFirst r limits other → other ≡ what }
 {
     forms_are_clear();
+    present_clauses_are_one();
+    first_numbers_are_one();
+}
+
+/// What the check answers of a text is the text's verdict, there is no other one, and no text has none.
+pub fn explanation_texts_have_one_verdict()
+    ensures right { (r : PackageList) (limits : Limits) (text : List ℕ) (verdict : ExplainVerdict) → IsInOrder r.packages
+        → ExplanationAnswers r limits text (Ok verdict) → IsExplainVerdict r limits text verdict }
+    ensures one { (r : PackageList) (limits : Limits) (text : List ℕ) (verdict other : ExplainVerdict) → IsInOrder r.packages
+        → IsExplainVerdict r limits text verdict → IsExplainVerdict r limits text other → verdict ≡ other }
+    ensures there { (r : PackageList) (limits : Limits) (text : List ℕ) → IsInOrder r.packages
+        → ((h : ExplainHeader) (explained : Explained) → ¬ IsExplainVerdict r limits text (Accepted h explained))
+        → ¬ ((fault : CertFault) → ¬ IsExplainVerdict r limits text (Refused fault)) }
+{
+    forms_are_clear();
+    present_clauses_are_there();
     present_clauses_are_one();
     first_numbers_are_one();
 }

@@ -24,8 +24,8 @@ pub use explaining::Explaining;
 pub use file::check_explained;
 pub use inputs::selected_inputs;
 pub use laws::{
-    accepted_explanations_hold, explanations_have_one_answer, marked_relations_are_answered,
-    selectors_explain,
+    accepted_explanations_hold, explanation_texts_have_one_verdict, explanations_have_one_answer,
+    marked_relations_are_answered, selectors_explain,
 };
 pub use listed::put_in_order;
 pub use notes::Notes;

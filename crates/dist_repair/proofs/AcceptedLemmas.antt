@@ -23,8 +23,8 @@ use Rattle.dist_judge.specs.ClearKindLaws.{IsClear}
 use Rattle.dist_judge.specs.FileKind.{FileKind, rules_of}
 use Rattle.dist_judge.specs.HeadingLaws.{heading_begins}
 use Rattle.dist_judge.specs.WholeLaws.{whole_ended, whole_faultless}
-use Rattle.dist_check_state.specs.ModelLaws.{WhatFollows, sound-rule}
-use Rattle.dist_check_state.specs.ToldLaws.{most-told, stable}
+use Rattle.dist_line_check.specs.ModelLaws.{WhatFollows, sound-rule}
+use Rattle.dist_line_check.specs.ToldLaws.{most-told, stable}
 use Rattle.dist_future.specs.Moved.{TellOfMoves}
 use Rattle.dist_space.specs.Space.{IsSpace, SpaceView}
 use Rattle.dist_space_clauses.specs.SpaceClauses.{AreSpaceClauses}

@@ -8,7 +8,7 @@ use Rattle.std.proofs.lemmas.Bool.{and_from, and_parts, cases_lt, le-leb, leb-tr
 use Rattle.std.proofs.lemmas.List.Elements.{All-append, All-cons, All-nil, All-weaker, Contains-append_left, Contains-push, Contains-push_cases}
 use Rattle.dist_clause.specs.Formula.{Literal}
 use Rattle.dist_derive.specs.Cone.{InCone}
-use Rattle.dist_check_state.specs.ToldLaws.{IsTold, either-way, most-told, stable}
+use Rattle.dist_line_check.specs.ToldLaws.{IsTold, either-way, most-told, stable}
 use Rattle.dist_space.specs.Space.{IsSpace, SpaceView, cluster_classes, variable_of}
 use Rattle.dist_space.specs.VariableLaws.{variable-range}
 use Rattle.dist_space.specs.declared.meaning.Meaning.TheVariants.{At}

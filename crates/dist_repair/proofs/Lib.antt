@@ -16,3 +16,4 @@ pub mod NextLemmas
 pub mod AcceptedLemmas
 pub mod VerdictLemmas
 pub mod OneAnswerLemmas
+pub mod OneVerdict

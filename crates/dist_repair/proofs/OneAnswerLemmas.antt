@@ -42,7 +42,7 @@ module _ (one : ClausesAreOne) (s : SpaceView) where
       ap₂ (λ (v : ℕ) (cs : List (List Literal)). record { variables = v; clauses = cs }) (second.variables ∙ sym first.variables)
       (second.counted ∙ ap (λ (cs : List (List Literal)). counted_clauses s cs most) same ∙ sym first.counted)
 
-  one-basis : (numbers : List ℕ) (basis other : Inputs) → IsBasisOf s numbers basis → IsBasisOf s numbers other → other ≡ basis
+  pub one-basis : (numbers : List ℕ) (basis other : Inputs) → IsBasisOf s numbers basis → IsBasisOf s numbers other → other ≡ basis
   one-basis numbers basis other (inl first) (inl second) = one-counted (most_of numbers) basis other first.1 second.1
   one-basis numbers basis other (inl first) (inr second) = absurd (omega (arith, first.0, second.0))
   one-basis numbers basis other (inr first) (inl second) = absurd (omega (arith, first.0, second.0))
@@ -166,7 +166,7 @@ module _ (one : ClausesAreOne) (s : SpaceView) where
   is-told limits text (Err work.NoMemory) x of = absurd of
   is-told limits text (Err error) x of = record { answer = Err (Work error); of_file = refl; is = x; of_text = tt }
 
-  same-header : (numbers : List ℕ) (h other : RepairHeader) → IsHeaderOf numbers h → IsHeaderOf numbers other → other ≡ h
+  pub same-header : (numbers : List ℕ) (h other : RepairHeader) → IsHeaderOf numbers h → IsHeaderOf numbers other → other ≡ h
   same-header numbers h other first second =
       ap (λ (l : ℕ). record other { limit = l }) (second.limit ∙ sym first.limit)
       ∙ ap (λ (n : ℕ). record other { limit = h.limit; «package» = n }) (second.number ∙ sym first.number)

@@ -5,7 +5,7 @@ use Rattle.dist_cert.specs.declared.faults.CertFault.{CertFault}
 use Rattle.dist_cert.specs.declared.faults.ReadCertError.TheVariants.{Bad}
 use Rattle.dist_cert.specs.ClearFormsLaws.{FormsAreClear}
 use Rattle.dist_judge.specs.Judging.{OfText, StopsWith}
-use Rattle.dist_check_state.specs.ToldLaws.{bool-told, stable}
+use Rattle.dist_line_check.specs.ToldLaws.{bool-told, stable}
 use Rattle.dist_space.specs.Space.{IsSpace, SpaceView}
 use Rattle.dist_findings.specs.AnswerFiles.{files_of}
 use Rattle.dist_findings.specs.Answers.{IsAnswered}

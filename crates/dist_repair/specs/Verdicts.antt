@@ -5,11 +5,13 @@ use Rattle.dist_outside.specs.declared.limits.Limits.{Limits}
 use Rattle.dist_outside.specs.declared.trouble.WorkError.{WorkError}
 use Rattle.dist_outside.specs.declared.trouble.WorkError.TheVariants.{NoMemory, ReadFault}
 use Rattle.dist_cert.specs.declared.faults.ReadCertError.TheVariants.{Bad, Work}
-use Rattle.dist_judge.specs.Judging.{StopsWith}
+use Rattle.dist_cert.specs.declared.records.CertRecord.{CertRecord}
+use Rattle.dist_judge.specs.Judging.{IsAccepted, IsRefused, StopsWith}
 use Rattle.dist_repo.specs.declared.package.Package.{Package}
 use Rattle.dist_space.specs.Space.{SpaceView}
 use Rattle.dist_findings.specs.AnswerFiles.{files_of, limit_of}
 use Rattle.dist_findings.specs.Answers.{IsAnswered}
+use Rattle.dist_findings.specs.Findings.{findings}
 use Rattle.dist_repair.specs.Answered.{Answers}
 use Rattle.dist_repair.specs.Counters.{counted_variables, counter_of}
 use Rattle.dist_repair.specs.Means.{Says}
@@ -31,6 +33,15 @@ pub record IsHeaderOf (numbers : List ℕ) (h : RepairHeader) : Type 0 where
 abbrev pub IsRepair : SpaceView → Limits → List ℕ → RepairHeader → Repair → Type 0
 IsRepair s limits text h repair = (numbers : List ℕ) × IsHeaderOf numbers h
     × IsAnswered (repair_files s) limits text numbers (λ found. Answers s (asked_by numbers) found repair)
+
+-- Of a text, whatever numbers it passes: its lines have no fault, and the answer is what they find; or it has a first
+-- fault.
+abbrev pub IsRepairVerdict : SpaceView → Limits → List ℕ → RepairVerdict → Type 0
+IsRepairVerdict s limits text (Accepted h repair) = (numbers : List ℕ) × IsHeaderOf numbers h × (steps : List
+    CertRecord)
+    × IsAccepted (files_of (repair_files s)) limits text numbers steps × Answers s (asked_by numbers) (findings steps)
+    repair
+IsRepairVerdict s limits text (Refused fault) = IsRefused (files_of (repair_files s)) limits text fault
 
 -- When each answer is given. A fault of the desk and want of memory may come in place of any.
 abbrev pub RepairAnswers : SpaceView → Limits → List ℕ → Result RepairVerdict WorkError → Type 0

@@ -1,5 +1,5 @@
 //! What the clauses that count mean, and what files prove. The functions do nothing.
-ghost use Rattle.std.specs.Prelude.{◌≡◌, ℕ, List, Result};
+ghost use Rattle.std.specs.Prelude.{◌≡◌, ℕ, List, Ok, Result};
 ghost use Rattle.dist_outside.specs.declared.limits.Limits.{Limits};
 ghost use Rattle.dist_outside.specs.declared.trouble.WorkError.{WorkError};
 ghost use Rattle.dist_clause.specs.Formula.{Literal};
@@ -10,15 +10,17 @@ ghost use Rattle.dist_repair.specs.Answered.{Answers};
 ghost use Rattle.dist_repair.specs.Counters.{CountedModelsTell, ModelsTellMoves};
 ghost use Rattle.dist_repair.specs.RepairFiles.{asked_by, repair_files};
 ghost use Rattle.dist_repair.specs.Searched.{LastDecides, LowerDecides, NextDecides, NotesAnswer};
-ghost use Rattle.dist_repair.specs.Verdicts.{AcceptedSays, IsHeaderOf, IsOfText, RepairAnswers};
+ghost use Rattle.dist_repair.specs.Verdicts.{AcceptedSays, IsHeaderOf, IsOfText, IsRepairVerdict, RepairAnswers};
 ghost use Rattle.dist_repair.specs.declared.repair.Repair.{Repair};
 ghost use Rattle.dist_repair.specs.declared.verdict.RepairHeader.{RepairHeader};
+ghost use Rattle.dist_cert.specs.declared.faults.CertFault.{CertFault};
 ghost use Rattle.dist_repair.specs.declared.verdict.RepairVerdict.{RepairVerdict};
+ghost use Rattle.dist_repair.specs.declared.verdict.RepairVerdict.TheVariants.{Accepted, Refused};
 
 use dist_cert::forms_are_clear;
 use dist_derive::{lines_keep_models, new_lines_are_few};
 use dist_future::{each_model_is_a_future, models_tell_of_moves};
-use dist_space_clauses::space_clauses_are_one;
+use dist_space_clauses::{space_clauses_are_one, space_clauses_are_there};
 
 /// What models tell of how many clusters must move for a package.
 pub fn counters_count_moves()
@@ -62,4 +64,19 @@ pub fn repairs_have_one_answer()
 {
     forms_are_clear();
     space_clauses_are_one();
+}
+
+/// What the check answers of a text is the text's verdict, there is no other one, and no text has none.
+pub fn repair_texts_have_one_verdict()
+    ensures right { (s : SpaceView) (limits : Limits) (text : List ℕ) (verdict : RepairVerdict) → RepairAnswers s limits text (Ok verdict)
+        → IsRepairVerdict s limits text verdict }
+    ensures one { (s : SpaceView) (limits : Limits) (text : List ℕ) (verdict other : RepairVerdict) → IsRepairVerdict s limits text verdict
+        → IsRepairVerdict s limits text other → verdict ≡ other }
+    ensures there { (s : SpaceView) (limits : Limits) (text : List ℕ) → IsSpace s
+        → ((h : RepairHeader) (repair : Repair) → ¬ IsRepairVerdict s limits text (Accepted h repair))
+        → ¬ ((fault : CertFault) → ¬ IsRepairVerdict s limits text (Refused fault)) }
+{
+    forms_are_clear();
+    space_clauses_are_one();
+    space_clauses_are_there();
 }

@@ -20,7 +20,8 @@ pub use checking::check_repair;
 pub use counted::with_counter;
 pub use inputs::repair_inputs;
 pub use laws::{
-    accepted_repairs_hold, counters_count_moves, questions_decide, repairs_have_one_answer,
+    accepted_repairs_hold, counters_count_moves, questions_decide, repair_texts_have_one_verdict,
+    repairs_have_one_answer,
 };
 pub use notes::Notes;
 pub use repair::Repair;

@@ -11,6 +11,7 @@ returns c = explanation-means (record {
     are = are;
     have = c.relations_have_clauses.ensures.clauses r relations clauses are of;
     members = λ values. c.demands_tell_health.ensures.members r values ordered;
+    values = c.demands_tell_health.ensures.values r;
     models = λ values. c.selectors_explain.ensures.models r relations clauses values ordered are of;
     explained = c.selectors_explain.ensures.explained r relations clauses ordered are of;
     healthy = c.models_are_installations.ensures r false clauses ordered of;
