@@ -4,6 +4,7 @@ ghost use Rattle.std.specs.Prelude.{◌≡◌, ◌++◌, ◌<◌, ◌^◌, IfOk,
 ghost use Rattle.dist_report.specs.ClaimParts.{opening_lines, packages_with, told_packages};
 ghost use Rattle.dist_report.specs.ClaimPartsPrivate.{is_part, list_of, pairs_of};
 
+use crate::labels::Labels;
 use crate::lines::{write_packages, write_string};
 use dist_cert::{Claim, Claims};
 use dist_repo::Repository;
@@ -100,15 +101,15 @@ pub(crate) fn opened(
 pub(crate) fn write_part(
     alloc: Global,
     out: &mut Vec<u8>,
-    repo: &Repository,
+    labels: &Labels,
     claims: &Claims,
     key: &[u8],
     part: Part,
 ) -> Result<(), AllocError>
     requires { length claims.now < 2 ^ 32 }
-    ensures { OnOk result (out.new.items ≡ out.old.items ++ told_packages key.now (is_part part) repo.now.packages claims.now) }
+    ensures { OnOk result (out.new.items ≡ out.old.items ++ told_packages key.now (is_part part) labels.now.packages claims.now) }
 {
     let numbers = told(alloc, claims, part)?;
-    write_packages(out, repo, key, b"  - ", &numbers)?;
+    write_packages(out, labels, key, b"  - ", &numbers)?;
     Ok(())
 }

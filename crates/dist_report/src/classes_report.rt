@@ -7,7 +7,8 @@ ghost use Rattle.dist_report.specs.ClassesReport.{IsClassesText, class_and_examp
 ghost use Rattle.dist_report.specs.Lines.{listed};
 ghost use Rattle.dist_report.specs.WrittenPrivate.{TellsCluster, TellsClusters, TellsName, TellsNames};
 
-use crate::lines::{write_key, write_package, write_packages, write_string};
+use crate::labels::Labels;
+use crate::lines::{write_key, write_numbered, write_packages, write_string};
 use dist_classes::{
     Class, Classes, CutFinder, Names, class_has_example, example, new_names, print_class,
     repository_clusters,
@@ -56,15 +57,15 @@ fn write_classes(alloc: Global, out: &mut Vec<u8>, classes: &Classes) -> Result<
 /// Adds what stands before the members of a cluster: its name in the report, its source and its top.
 fn write_head(
     out: &mut Vec<u8>,
-    repo: &Repository,
+    labels: &Labels,
     least: u32,
     top: &Version,
 ) -> Result<(), AllocError>
-    requires { least < length repo.now.packages }
-    ensures { OnOk result (out.new.items ≡ out.old.items ++ head_lines repo.now.packages least top.now) }
+    requires { least < length labels.now.packages }
+    ensures { OnOk result (out.new.items ≡ out.old.items ++ head_lines labels.now.packages least top.now) }
 {
-    let package = repo.package(least);
-    write_package(out, b"  - cluster: ", package)?;
+    write_numbered(out, labels, b"  - cluster: ", least)?;
+    let package = labels.repo().package(least);
     write_string(out, b"    source: ", package.source.bytes())?;
     write_string(out, b"    top: ", top.text())?;
     Ok(())
@@ -74,20 +75,20 @@ fn write_head(
 fn write_cluster(
     alloc: Global,
     out: &mut Vec<u8>,
-    repo: &Repository,
+    labels: &Labels,
     finder: &CutFinder<'_>,
     clusters: &Clusters,
     cluster: u32,
 ) -> Result<(), AllocError>
-    requires of { finder.now ≡ repo.now }
-    requires clusters { AreClustersOf repo.now clusters.now }
+    requires of { finder.now ≡ labels.now }
+    requires clusters { AreClustersOf labels.now clusters.now }
     requires cluster { cluster < length clusters.now.members }
-    ensures { OnOk result (TellsCluster repo.now (slice_index_or clusters.now.members cluster []) (slice_index_or clusters.now.tops cluster []) out.old.items out.new.items) }
+    ensures { OnOk result (TellsCluster labels.now (slice_index_or clusters.now.members cluster []) (slice_index_or clusters.now.tops cluster []) out.old.items out.new.items) }
 {
     let members = clusters.members(cluster);
     let classes = finder.classes_of_cluster(clusters, cluster)?;
-    write_head(out, repo, members[0], clusters.top(cluster))?;
-    write_packages(out, repo, b"    members:", b"      - ", members)?;
+    write_head(out, labels, members[0], clusters.top(cluster))?;
+    write_packages(out, labels, b"    members:", b"      - ", members)?;
     write_classes(alloc, out, &classes)?;
     Ok(())
 }
@@ -96,17 +97,17 @@ fn write_cluster(
 fn write_clusters(
     alloc: Global,
     out: &mut Vec<u8>,
-    repo: &Repository,
+    labels: &Labels,
     finder: &CutFinder<'_>,
     clusters: &Clusters,
 ) -> Result<(), AllocError>
-    requires of { finder.now ≡ repo.now }
-    requires clusters { AreClustersOf repo.now clusters.now }
-    ensures { OnOk result (TellsClusters repo.now out.old.items out.new.items) }
+    requires of { finder.now ≡ labels.now }
+    requires clusters { AreClustersOf labels.now clusters.now }
+    ensures { OnOk result (TellsClusters labels.now out.old.items out.new.items) }
 {
     write_key(out, b"clusters:", clusters.len() == 0)?;
     for cluster in 0..clusters.len() {
-        write_cluster(alloc, out, repo, finder, clusters, cluster)?;
+        write_cluster(alloc, out, labels, finder, clusters, cluster)?;
     }
     Ok(())
 }
@@ -154,6 +155,21 @@ fn opened(alloc: Global, repo: &Repository) -> Result<Vec<u8>, AllocError>
     Ok(out)
 }
 
+/// The same, by the labels of the packages.
+fn classes_text_by(alloc: Global, labels: &Labels) -> Result<Vec<u8>, AllocError>
+    requires { length labels.now.packages < 4294967295 }
+    ensures { IfOk result (λ text. IsClassesText labels.now text.items) }
+{
+    let repo = labels.repo();
+    let clusters = repository_clusters(alloc, repo)?;
+    let names = new_names(alloc, repo)?;
+    let finder = CutFinder::new(alloc, repo)?;
+    let mut out = opened(alloc, repo)?;
+    write_clusters(alloc, &mut out, labels, &finder, &clusters)?;
+    write_names(alloc, &mut out, &finder, &names)?;
+    Ok(out)
+}
+
 /// The report of the classes of a repository: of each cluster, and of each name that is new to it.
 ///
 /// The atoms of the repository are gone through once, and the text is one vector.
@@ -161,11 +177,8 @@ pub fn classes_text(alloc: Global, repo: &Repository) -> Result<Vec<u8>, AllocEr
     requires { length repo.now.packages < 4294967295 }
     ensures { IfOk result (λ text. IsClassesText repo.now text.items) }
 {
-    let clusters = repository_clusters(alloc, repo)?;
-    let names = new_names(alloc, repo)?;
-    let finder = CutFinder::new(alloc, repo)?;
-    let mut out = opened(alloc, repo)?;
-    write_clusters(alloc, &mut out, repo, &finder, &clusters)?;
-    write_names(alloc, &mut out, &finder, &names)?;
-    Ok(out)
+    let labels = Labels::new(alloc, repo)?;
+    let text = classes_text_by(alloc, &labels);
+    drop(labels);
+    text
 }

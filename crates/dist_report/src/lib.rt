@@ -10,6 +10,7 @@ mod classes_report;
 mod explained_lines;
 mod health_line;
 mod impact;
+mod labels;
 mod laws;
 mod lines;
 mod marks;

@@ -6,7 +6,8 @@ ghost use Rattle.dist_report.specs.Lines.{key_line, listed, string_line};
 ghost use Rattle.dist_report.specs.PackageText.{cluster_text, label, package_line};
 
 use crate::explained_lines::write_label_at;
-use dist_repo::{Package, Repository};
+use crate::labels::Labels;
+use dist_repo::Package;
 use dist_space::Space;
 use std::alloc::AllocError;
 
@@ -77,50 +78,31 @@ pub fn print_cluster(space: &Space, cluster: u32, out: &mut Vec<u8>) -> Result<(
     }
 }
 
-/// Adds a package as a string, behind what stands before it, and the line's end.
-pub(crate) fn write_package(
-    out: &mut Vec<u8>,
-    before: &[u8],
-    package: &Package,
-) -> Result<(), AllocError>
-    ensures { OnOk result (out.new.items ≡ out.old.items ++ string_line before.now (label «package».now)) }
-{
-    out.extend_from_slice(before)?;
-    out.push(b'"')?;
-    print_label(package, out)?;
-    out.extend_from_slice(b"\"\n")?;
-    Ok(())
-}
-
 /// Adds the package of a number, or an empty string where there is none.
 pub(crate) fn write_numbered(
     out: &mut Vec<u8>,
-    repo: &Repository,
+    labels: &Labels,
     before: &[u8],
     number: u32,
 ) -> Result<(), AllocError>
-    ensures { OnOk result (out.new.items ≡ out.old.items ++ package_line before.now repo.now.packages number) }
+    ensures { OnOk result (out.new.items ≡ out.old.items ++ package_line before.now labels.now.packages number) }
 {
-    if number < repo.len() {
-        write_package(out, before, repo.package(number))
-    } else {
-        write_string(out, before, b"")
-    }
+    write_string(out, before, labels.text(number))
 }
 
 /// Adds a list of packages, by their numbers, behind its key.
 pub(crate) fn write_packages(
     out: &mut Vec<u8>,
-    repo: &Repository,
+    labels: &Labels,
     key: &[u8],
     before: &[u8],
     numbers: &[u32],
 ) -> Result<(), AllocError>
-    ensures { OnOk result (out.new.items ≡ out.old.items ++ listed key.now (package_line before.now repo.now.packages) numbers.now) }
+    ensures { OnOk result (out.new.items ≡ out.old.items ++ listed key.now (package_line before.now labels.now.packages) numbers.now) }
 {
     write_key(out, key, numbers.is_empty())?;
     for number in numbers {
-        write_numbered(out, repo, before, *number)?;
+        write_numbered(out, labels, before, *number)?;
     }
     Ok(())
 }

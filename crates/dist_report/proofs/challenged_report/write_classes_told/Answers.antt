@@ -23,7 +23,7 @@ write_places-requires-clause-within c =
 
 pub returns : goal.returns
 returns c =
-    let packages = c.args.repo.now.packages in
+    let packages = c.args.labels.now.packages in
     let members = c.args.table.now.clusters.members in
     let classes = c.args.table.now.classes.items in
     let row = c.args.table.now.row in

@@ -16,7 +16,7 @@ write_pair-requires-clause-class c =
 
 pub loop-place-preserved : goal.loop-place-preserved
 loop-place-preserved c =
-    let packages = c.args.repo.now.packages in
+    let packages = c.args.labels.now.packages in
     let members = c.args.table.now.clusters.members in
     let classes = c.args.table.now.classes.items in
     let row = c.args.table.now.row in
@@ -36,5 +36,5 @@ loop-place-preserved c =
 pub returns : goal.returns
 returns c =
     let lines : ℕ → List ℕ =
-    place_lines c.args.repo.now.packages c.args.table.now.clusters.members c.args.table.now.classes.items c.args.table.now.row c.args.lists.now in
+    place_lines c.args.labels.now.packages c.args.table.now.clusters.members c.args.table.now.classes.items c.args.table.now.row c.args.lists.now in
     lines-all lines c.args.places.now c.loop-place.place-index c.args.out.now.items c.loop-place.out.items (omega arith) c.loop-place.invariant

@@ -9,14 +9,14 @@ use Rattle.dist_report.proofs.classes_report.write_cluster.Goals as goal
 
 pub write_head-requires : goal.write_head-requires
 write_head-requires c =
-    let r = c.args.repo.now in
+    let r = c.args.labels.now in
     let members = c.members-members.result.now in
     members-within r c.args.clusters.now c.requires.clusters c.args.cluster members c.members-members.ensures 0 0
     (some-members r c.args.clusters.now c.requires.clusters c.args.cluster members c.members-members.ensures)
 
 pub returns : goal.returns
 returns c =
-    let r = c.args.repo.now in
+    let r = c.args.labels.now in
     let members = c.args.clusters.now.members in
     let tops = c.args.clusters.now.tops in
     let n = c.args.cluster in

@@ -6,7 +6,7 @@ use Rattle.dist_report.proofs.classes_report.write_clusters.Goals as goal
 
 pub loop-cluster-init : goal.loop-cluster-init
 loop-cluster-init c =
-    let r = c.args.repo.now in
+    let r = c.args.labels.now in
     let clusters = c.args.clusters.now in
     let old = c.args.out.now.items in
     let before = old ++ key_line (codes "clusters:") (length clusters.members == 0) in
@@ -15,7 +15,7 @@ loop-cluster-init c =
 
 pub loop-cluster-preserved : goal.loop-cluster-preserved
 loop-cluster-preserved c =
-    let r = c.args.repo.now in
+    let r = c.args.labels.now in
     let clusters = c.args.clusters.now in
     let k = c.loop-cluster.cluster in
     let before = c.args.out.now.items ++ key_line (codes "clusters:") (length clusters.members == 0) in
@@ -26,5 +26,5 @@ loop-cluster-preserved c =
     c.loop-cluster.invariant told.are told.examples (lines-told r before now after (told-at clusters k told.classes) told.text)
 
 pub returns : goal.returns
-returns c = lines-all-told c.args.repo.now c.args.clusters.now c.loop-cluster.cluster c.args.out.now.items c.loop-cluster.out.items (omega arith)
+returns c = lines-all-told c.args.labels.now c.args.clusters.now c.loop-cluster.cluster c.args.out.now.items c.loop-cluster.out.items (omega arith)
     c.requires.clusters c.loop-cluster.invariant

@@ -16,6 +16,6 @@ pub returns : goal.returns
 returns c =
     let numbers = c.args.numbers.now in
     let key = key_line c.args.key.now (length numbers == 0) in
-    let line = package_line c.args.before.now c.args.repo.now.packages in
+    let line = package_line c.args.before.now c.args.labels.now.packages in
     lines-all line numbers c.loop-number.number-index (c.args.out.now.items ++ key) c.loop-number.out.items (omega arith) c.loop-number.invariant
     ∙ append_assoc c.args.out.now.items key (flat_map line numbers)

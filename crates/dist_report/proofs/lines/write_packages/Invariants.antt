@@ -7,4 +7,4 @@ use Rattle.dist_report.proofs.lines.write_packages.Given as goal
 
 abbrev pub invariant-loop-number : goal.invariant-loop-number
 invariant-loop-number l = l.out.items ≡ (l.fn.out.items ++ key_line l.key (length l.numbers == 0))
-    ++ flat_map (package_line l.before l.repo.packages) (take l.number-index l.numbers)
+    ++ flat_map (package_line l.before l.labels.packages) (take l.number-index l.numbers)

@@ -16,7 +16,7 @@ write_lists-requires c =
 
 pub returns : goal.returns
 returns c =
-    let packages = c.args.repo.now.packages in
+    let packages = c.args.labels.now.packages in
     let lines : ℕ → List ℕ = λ p. entry_lines packages (codes "    on:") p (list_at c.args.kind c.args.claims.now p) in
     c.in_ok-write_lists.ensures
     ∙ ap (λ (list : List ℕ). c.args.out.now.items ++ listed c.args.key.now lines list) (c.deref.ensures.value ∙ c.in_ok-numbers.ensures)

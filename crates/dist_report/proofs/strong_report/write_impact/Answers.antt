@@ -30,7 +30,7 @@ write_turned-requires c =
 
 pub returns : goal.returns
 returns c =
-    let packages = c.args.repo.now.packages in
+    let packages = c.args.labels.now.packages in
     let old = c.args.out.now.items in
     let made = c.args.claims.now in
     let n = length made in

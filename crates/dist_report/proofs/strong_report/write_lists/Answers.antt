@@ -19,7 +19,7 @@ loop-number-init c =
 
 pub loop-number-preserved : goal.loop-number-preserved
 loop-number-preserved c =
-    let packages = c.args.repo.now.packages in
+    let packages = c.args.labels.now.packages in
     let numbers = c.args.numbers.now in
     let made = c.args.claims.now in
     let kind = c.args.kind in
@@ -36,6 +36,6 @@ pub returns : goal.returns
 returns c =
     let numbers = c.args.numbers.now in
     let key = key_line c.args.key.now (length numbers == 0) in
-    let lines : ℕ → List ℕ = λ p. entry_lines c.args.repo.now.packages (codes "    on:") p (list_at c.args.kind c.args.claims.now p) in
+    let lines : ℕ → List ℕ = λ p. entry_lines c.args.labels.now.packages (codes "    on:") p (list_at c.args.kind c.args.claims.now p) in
     lines-all lines numbers c.loop-number.number-index (c.args.out.now.items ++ key) c.loop-number.out.items (omega arith) c.loop-number.invariant
     ∙ append_assoc c.args.out.now.items key (flat_map lines numbers)

@@ -15,7 +15,7 @@ loop-number-init c =
 
 pub loop-number-preserved : goal.loop-number-preserved
 loop-number-preserved c =
-    let packages = c.args.repo.now.packages in
+    let packages = c.args.labels.now.packages in
     let numbers = c.args.numbers.now in
     let number = get_or c.args.numbers.now c.loop-number.number-index 0 in
     let before = c.args.out.now.items ++ key_line (codes "impact:") (length numbers == 0) in
@@ -29,6 +29,6 @@ pub returns : goal.returns
 returns c =
     let numbers = c.args.numbers.now in
     let key = key_line (codes "impact:") (length numbers == 0) in
-    let lines : ℕ → List ℕ = λ q. entry_lines c.args.repo.now.packages (codes "    of:") q (get_or c.args.lists.now q []) in
+    let lines : ℕ → List ℕ = λ q. entry_lines c.args.labels.now.packages (codes "    of:") q (get_or c.args.lists.now q []) in
     lines-all lines numbers c.loop-number.number-index (c.args.out.now.items ++ key) c.loop-number.out.items (omega arith) c.loop-number.invariant
     ∙ append_assoc c.args.out.now.items key (flat_map lines numbers)
