@@ -1,6 +1,7 @@
 -- The jobs by their words, and what each answers.
 use Rattle.std.specs.Prelude.{◌≡◌, ℕ, true, false, List, codes}
 use Rattle.dist_bench.specs.Counted.{lines_text}
+use Rattle.dist_bench.specs.Explained.{IsExplainedText}
 use Rattle.dist_bench.specs.Filled.{HasNoCount, IsFilledText}
 use Rattle.dist_bench.specs.FutureClauses.{HasNoFutureClauses, IsFutureClausesText}
 use Rattle.dist_bench.specs.Futures.{HasNoSpace, IsVariablesText}
@@ -13,8 +14,8 @@ use Rattle.dist_bench.specs.declared.error.JobError.{JobError}
 use Rattle.dist_bench.specs.declared.job.Job.{Job}
 use Rattle.dist_bench.specs.declared.job.Job.TheVariants.{AskEssentialPackages, AskLastPackage, AskPackages}
 use Rattle.dist_bench.specs.declared.job.Job.TheVariants.{CountLines, CountClasses, CountClauses, CountFutureClauses}
-use Rattle.dist_bench.specs.declared.job.Job.TheVariants.{CountFutureVariables, CountPackages, FillClauses}
-use Rattle.dist_bench.specs.declared.job.Job.TheVariants.{ReadRelations, SortVersions}
+use Rattle.dist_bench.specs.declared.job.Job.TheVariants.{CountFutureVariables, CountPackages, ExplainPackages}
+use Rattle.dist_bench.specs.declared.job.Job.TheVariants.{FillClauses, ReadRelations, SortVersions}
 
 abbrev pub word_of : Job → List ℕ
 word_of AskEssentialPackages = codes "ask-essential-packages"
@@ -26,6 +27,7 @@ word_of CountClauses = codes "count-clauses"
 word_of CountFutureClauses = codes "count-future-clauses"
 word_of CountFutureVariables = codes "count-future-variables"
 word_of CountPackages = codes "count-packages"
+word_of ExplainPackages = codes "explain-packages"
 word_of FillClauses = codes "fill-clauses"
 word_of ReadRelations = codes "read-relations"
 word_of SortVersions = codes "sort-versions"
@@ -41,6 +43,7 @@ IsAnswer CountClauses text answer = IsClausesText text answer
 IsAnswer CountFutureClauses text answer = IsFutureClausesText text answer
 IsAnswer CountFutureVariables text answer = IsVariablesText text answer
 IsAnswer CountPackages text answer = IsPackagesText text answer
+IsAnswer ExplainPackages text answer = OfNewest text (λ r. IsExplainedText r answer)
 IsAnswer FillClauses text answer = IsFilledText text answer
 IsAnswer ReadRelations text answer = IsCountsText text answer
 IsAnswer SortVersions text answer = IsSortedText text answer
@@ -56,6 +59,7 @@ HasNoAnswer CountClauses text error = HasNoClauses text error
 HasNoAnswer CountFutureClauses text error = HasNoFutureClauses text error
 HasNoAnswer CountFutureVariables text error = HasNoSpace text error
 HasNoAnswer CountPackages text error = HasNoPackages text error
+HasNoAnswer ExplainPackages text error = HasNoQuestions false text error
 HasNoAnswer FillClauses text error = HasNoCount text error
 HasNoAnswer ReadRelations text error = HasNoRelations text error
 HasNoAnswer SortVersions text error = HasNoVersion text error

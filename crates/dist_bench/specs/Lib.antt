@@ -1,4 +1,5 @@
 pub mod Counted
+pub mod Explained
 pub mod Filled
 pub mod FirstLine
 pub mod FutureClauses

@@ -4,7 +4,9 @@ ghost use Rattle.dist_base.specs.Answers.{Answers};
 ghost use Rattle.dist_bench.specs.Jobs.{HasNoAnswer, IsAnswer, word_of};
 
 use crate::error::JobError;
-use crate::{counted, filled, future_clauses, futures, packages, questions, relations, versions};
+use crate::{
+    counted, explained, filled, future_clauses, futures, packages, questions, relations, versions,
+};
 use std::alloc::Global;
 
 /// What is done to a text.
@@ -19,6 +21,7 @@ pub enum Job {
     CountFutureClauses,
     CountFutureVariables,
     CountPackages,
+    ExplainPackages,
     FillClauses,
     ReadRelations,
     SortVersions,
@@ -39,6 +42,7 @@ impl Job {
             "count-future-clauses" => Some(Job::CountFutureClauses),
             "count-future-variables" => Some(Job::CountFutureVariables),
             "count-packages" => Some(Job::CountPackages),
+            "explain-packages" => Some(Job::ExplainPackages),
             "fill-clauses" => Some(Job::FillClauses),
             "read-relations" => Some(Job::ReadRelations),
             "sort-versions" => Some(Job::SortVersions),
@@ -62,6 +66,7 @@ pub fn answer(alloc: Global, job: Job, text: &str) -> Result<Vec<u8>, JobError>
         Job::CountFutureClauses => future_clauses::clauses_text(alloc, bytes),
         Job::CountFutureVariables => futures::variables_text(alloc, bytes),
         Job::CountPackages => packages::packages_text(alloc, bytes),
+        Job::ExplainPackages => explained::explained_text(alloc, bytes),
         Job::FillClauses => filled::filled_text(alloc, text),
         Job::ReadRelations => relations::counts_text(alloc, bytes),
         Job::SortVersions => versions::sorted_text(alloc, bytes),

@@ -4,6 +4,7 @@
 
 mod counted;
 mod error;
+mod explained;
 mod filled;
 mod future_clauses;
 mod futures;

@@ -41,7 +41,11 @@ impl QuestionCounts {
 }
 
 /// A solver of the clauses of the present.
-fn solver_of(alloc: Global, repository: &Repository, essential: bool) -> Result<Solver, JobError>
+pub(crate) fn solver_of(
+    alloc: Global,
+    repository: &Repository,
+    essential: bool,
+) -> Result<Solver, JobError>
     requires { IsWithinSize repository.now }
     ensures { Answers (λ solver. IsLogOf repository.now essential solver.log)
         (λ error. (error ≡ JobError.TooManyClauses) × PassesPresentLimits repository.now essential) JobError.NoMemory result }
@@ -51,7 +55,7 @@ fn solver_of(alloc: Global, repository: &Repository, essential: bool) -> Result<
 }
 
 /// The answer to a question. It stays undecided too where the log has no room for a line more.
-fn ask(solver: &mut Solver, assumptions: &[Lit]) -> Result<Answer, AllocError>
+pub(crate) fn ask(solver: &mut Solver, assumptions: &[Lit]) -> Result<Answer, AllocError>
     requires { IsClauseOver solver.old.log.variables assumptions.now }
     ensures variables { solver.new.log.variables ≡ solver.old.log.variables }
     ensures right { IfOk result (IsRight solver.old.log assumptions.now) }

@@ -23,3 +23,6 @@ returns-in-CountFutureVariables c = rw (c.in-CountFutureVariables.is, ← c.as_b
 
 pub returns-in-CountPackages : goal.returns-in-CountPackages
 returns-in-CountPackages c = rw (c.in-CountPackages.is, ← c.as_bytes-bytes.ensures.value) c.packages_text.ensures
+
+pub returns-in-ExplainPackages : goal.returns-in-ExplainPackages
+returns-in-ExplainPackages c = rw (c.in-ExplainPackages.is, ← c.as_bytes-bytes.ensures.value) c.explained_text.ensures
