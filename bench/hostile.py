@@ -149,6 +149,20 @@ def named_by_each(kind, n):
     return "".join(stanza(f"p{k:06}") for k in range(n)), first + lines + "e\n"
 
 
+def named_by_bits(n):
+    """Packages of which two installations for each bit of their numbers have those with this bit or without it. Each claim names all that have its
+    package, which have nothing else in common."""
+    bits = max(1, (n - 1).bit_length())
+    lines = ""
+    for bit in range(bits):
+        for value in (0, 1):
+            lines += "m 1 " + " ".join(str(k + 1) for k in range(1, n + 1) if k - 1 >> bit & 1 == value) + "\n"
+    for k in range(1, n + 1):
+        lines += f"c {k} " + " ".join(str(2 * bit + (k - 1 >> bit & 1) + 1) for bit in range(bits)) + " 0 0\n"
+    first = f"distfuture-certificate 1 challenged plain 10000 {n} {3 * n + 1} {3 * n}\n"
+    return "".join(stanza(f"p{k:06}") for k in range(n)), first + lines + "e\n"
+
+
 def wide_line(n):
     """An installation of so many variables that none of them is there."""
     return stanza("a"), header("plain", "1 1 0") + "m " + " ".join(str(k) for k in range(1, n)) + "\n"
@@ -430,6 +444,7 @@ ROWS = {
     "one false hint told again and again": (100_000, lambda n: checked(*hints(n))),
     "so many packages, half of them in a thousand installations that each claim on one names": (8_000, lambda n: checked(*named_by_each("strong", n))),
     "so many in a thousand installations that each claim on challenges names": (2_000, lambda n: checked(*named_by_each("challenged", n))),
+    "so many claims on challenges that name large installations alone": (8_000, lambda n: checked(*named_by_bits(n))),
     "one line of so many numbers": (6_000_000, lambda n: checked(*wide_line(n))),
     "a package in so many conflicts, installed again and again": (20_000, lambda n: checked(*installed_again(n))),
     "one item told again and again, installed as often": (20_000, lambda n: checked(*equal_items(n))),

@@ -8,8 +8,8 @@ use Rattle.std.proofs.lemmas.List.{drop-map, length-drop, length-map, map-append
 use Rattle.dist_cert.specs.Rising.{is_among}
 use Rattle.dist_cert.specs.declared.TheConstants.{REACH}
 use Rattle.dist_check_group.specs.Challenge.{use_each}
-use Rattle.dist_check_group.specs.Layout.{LayoutView}
-use Rattle.dist_check_group.specs.Window.{WindowView, latest}
+use Rattle.dist_check_group.specs.Layout.{LayoutView, used}
+use Rattle.dist_check_group.specs.Window.{WindowView, latest, members_at}
 use Rattle.dist_check_group.specs.WindowPrivate.{members_of}
 use Rattle.dist_check_group.specs.declared.window.Installation.{Installation}
 use Rattle.dist_check_group.proofs.RuleLemmas.{among-filter}
@@ -81,3 +81,9 @@ pub told-by : (own layout : LayoutView) (w v : WindowView) (named : List ℕ) (a
 told-by own layout w v named a b c same is told =
     subst (λ (u : Bool). (a && u) ≡ (b && u))
     (ap (λ (t : List ℕ). use_each (record own { cluster_of = t }) w named c) same ∙ ap (λ (x : WindowView). use_each layout x named c) is) told
+
+pub used-by : (own layout : LayoutView) (w v : WindowView) (number c : ℕ) → own.cluster_of ≡ layout.cluster_of → w ≡ v
+    → is_among (used own (members_at w number)) c ≡ is_among (used layout (members_at v number)) c
+used-by own layout w v number c same is =
+    ap (λ (t : List ℕ). is_among (used (record own { cluster_of = t }) (members_at w number)) c) same
+    ∙ ap (λ (x : WindowView). is_among (used layout (members_at x number)) c) is

@@ -229,7 +229,25 @@ fn used_by_one(
     used_by(alloc, layout, &members)
 }
 
-/// The clusters that one of the claim's installations uses, narrowed by those of the group.
+/// The same, but for some that one of the large installations that are named does not use, where it is a large one itself.
+fn used_by_first(
+    alloc: Global,
+    layout: &Layout,
+    window: &Window,
+    number: u32,
+    named: &[u32],
+) -> Result<Vec<u32>, AllocError>
+    ensures value { IfOk result (λ found. (c : ℕ) → (is_among found.items c && use_each layout.now window.now named.now c)
+        ≡ (is_among (used layout.now (members_at window.now number)) c && use_each layout.now window.now named.now c)) }
+    ensures rising { IfOk result (λ found. AreRising found.items) }
+{
+    match window.used_by(alloc, layout, number, named)? {
+        Some(clusters) => clusters.listed(alloc),
+        None => used_by_one(alloc, layout, window, number),
+    }
+}
+
+/// The clusters that one of the claim's installations uses, narrowed by those of the group. Each that all use is there.
 fn first_used(
     alloc: Global,
     layout: &Layout,
@@ -237,14 +255,15 @@ fn first_used(
     group: &Group,
     named: &[u32],
 ) -> Result<Vec<u32>, AllocError>
-    ensures value { IfOk result (λ found. (c : ℕ) → is_among found.items c ≡ is_among (first_used layout.now window.now group.now.cover.used named.now) c) }
+    ensures value { IfOk result (λ found. (c : ℕ) → (is_among found.items c && use_each layout.now window.now named.now c)
+        ≡ (is_among (first_used layout.now window.now group.now.cover.used named.now) c && use_each layout.now window.now named.now c)) }
     ensures rising { IfOk result (λ found. AreRising found.items) }
 {
     if let Some(clusters) = group.used() {
         return Ok(clusters.to_vec(alloc)?);
     }
     match named.first() {
-        Some(number) => used_by_one(alloc, layout, window, *number),
+        Some(number) => used_by_first(alloc, layout, window, *number, named),
         None => Ok(Vec::new(alloc)),
     }
 }

@@ -157,10 +157,37 @@ impl Window {
 
     /// Whether the installation of a number does.
     fn tells_used(&self, number: u32) -> bool {
-        match find(&self.kept, self.count, number) {
-            Some(installation) => installation.used.is_some(),
-            None => false,
+        told_by(&self.layout, &self.kept, self.count, number).is_some()
+    }
+
+    /// The clusters that the installation of a number uses, but for some that one of the large installations that are named does
+    /// not use, where it is a large one itself.
+    pub(crate) fn used_by(
+        &self,
+        alloc: Global,
+        layout: &Layout,
+        number: u32,
+        named: &[u32],
+    ) -> Result<Option<Kept>, AllocError>
+        ensures { IfOk result (λ found. IfSome found (λ clusters. (c : ℕ) → (is_among clusters c && use_each layout.now self.now named.now c)
+            ≡ (is_among (used layout.now (members_at self.now number)) c && use_each layout.now self.now named.now c))) }
+    {
+        let Some(told) = told_by(&self.layout, &self.kept, self.count, number) else {
+            return Ok(None);
+        };
+        if !self.layout.has_clusters_of(layout) {
+            return Ok(None);
         }
+        let mut clusters = told.copied(alloc)?;
+        narrow_by_each(
+            alloc,
+            &self.layout,
+            &self.kept,
+            self.count,
+            named,
+            &mut clusters,
+        )?;
+        Ok(Some(clusters))
     }
 
     /// Leaves out clusters that one of the large installations that are named does not use. Each that all use stays.
@@ -244,28 +271,37 @@ fn used_of(
     Ok(Kept::new(alloc, found, clusters)?)
 }
 
-/// Keeps the clusters that an installation uses, where it tells them.
-fn narrow_by(
-    alloc: Global,
+/// The clusters that the installation of a number uses, where it tells them.
+fn told_by<'a>(
     layout: &Layout,
-    installation: &Installation,
-    kept: &mut Kept,
-) -> Result<(), AllocError>
-    requires { TellsUsed layout.now installation.now }
-    ensures { OnOk result ((c : ℕ) → (is_among kept.new c && is_among (used layout.now (members_of installation.now)) c)
-        ≡ (is_among kept.old c && is_among (used layout.now (members_of installation.now)) c)) }
+    installations: &'a VecDeque<Installation>,
+    count: u64,
+    number: u32,
+) -> Option<&'a Kept>
+    requires count { length installations.now.items ≤ count }
+    requires used { All (TellsUsed layout.now) installations.now.items }
+    ensures { IfSome result (λ clusters. (c : ℕ) → is_among clusters.now c
+        ≡ is_among (used layout.now (members_at (record { kept = map members_of installations.now.items; count = count }) number)) c) }
 {
-    match &installation.used {
-        Some(clusters) => {
-            kept.narrow(alloc, clusters)?;
-            Ok(())
-        }
-        None => Ok(()),
+    match find(installations, count, number) {
+        Some(installation) => clusters_of(layout, installation),
+        None => None,
     }
 }
 
-/// The same of the installation of a number.
-fn narrow_by_one(
+/// The same of an installation.
+fn clusters_of<'a>(layout: &Layout, installation: &'a Installation) -> Option<&'a Kept>
+    requires { TellsUsed layout.now installation.now }
+    ensures { IfSome result (λ clusters. (c : ℕ) → is_among clusters.now c ≡ is_among (used layout.now (members_of installation.now)) c) }
+{
+    match &installation.used {
+        Some(clusters) => Some(clusters),
+        None => None,
+    }
+}
+
+/// Keeps the clusters that the installation of a number uses, where it tells them.
+fn narrow_by(
     alloc: Global,
     layout: &Layout,
     installations: &VecDeque<Installation>,
@@ -280,8 +316,11 @@ fn narrow_by_one(
         ≡ (is_among kept.old c
         && is_among (used layout.now (members_at (record { kept = map members_of installations.now.items; count = count }) number)) c)) }
 {
-    match find(installations, count, number) {
-        Some(installation) => narrow_by(alloc, layout, installation, kept),
+    match told_by(layout, installations, count, number) {
+        Some(clusters) => {
+            kept.narrow(alloc, clusters)?;
+            Ok(())
+        }
         None => Ok(()),
     }
 }
@@ -303,7 +342,7 @@ fn narrow_by_each(
         && use_each layout.now (record { kept = map members_of installations.now.items; count = count }) named.now c)) }
 {
     for number in named {
-        narrow_by_one(alloc, layout, installations, count, *number, kept)?;
+        narrow_by(alloc, layout, installations, count, *number, kept)?;
     }
     Ok(())
 }

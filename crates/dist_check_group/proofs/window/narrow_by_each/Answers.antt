@@ -16,6 +16,6 @@ loop-number-preserved c = λ q.
     let named : List ℕ = c.args.named.now in
     let i = c.loop-number.number-index in
     let uses : ℕ → Bool = λ number. is_among (used c.args.layout.now (members_at w number)) q in
-    kept-under (is_among c.narrow_by_one.new.kept q) (is_among c.loop-number.kept q) (uses (get_or named i 0)) (use_each c.args.layout.now w named q)
-    (all-at uses named i c.loop-number-test.true) (c.in_ok-narrow_by_one.ensures q)
+    kept-under (is_among c.narrow_by.new.kept q) (is_among c.loop-number.kept q) (uses (get_or named i 0)) (use_each c.args.layout.now w named q)
+    (all-at uses named i c.loop-number-test.true) (c.in_ok-narrow_by.ensures q)
     ∙ c.loop-number.invariant q

@@ -21,7 +21,7 @@ returns-in-Ok c =
     let undecided : List ℕ = found.undecided in
     let asked : ℕ → Bool = is_asked layout found variable in
     let used : (q : ℕ) → (is_among first q && use_each layout w once q) ≡ is_used layout w cover named q = λ q.
-    ap (λ (b : Bool). b && use_each layout w once q) (c.in_ok-first.ensures.value q) ∙ used-once layout w cover.used named once c.requires q in
+    c.in_ok-first.ensures.value q ∙ used-once layout w cover.used named once c.requires q in
     let told : (v : ℕ) → may_ask layout undecided first v ≡ true → is_marked found.held v ≡ is_held layout w cover named v = λ v may.
     c.in_ok-found.ensures.held v (ap (λ (xs : List ℕ). may_ask layout undecided xs v) c.deref.ensures.value ∙ may)
     ∙ held-once layout w cover named once c.requires v in
