@@ -2,6 +2,7 @@ pub mod Explanation
 pub mod Selectors
 pub mod SelectedPrivate
 pub mod Examples
+pub mod ConnectedExamples
 pub mod Answered
 pub mod AnsweredLaws
 pub mod ListedPrivate
