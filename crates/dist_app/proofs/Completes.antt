@@ -126,20 +126,20 @@ classes_end laws files limits packages r ending read decides =
     status_from ending (answered (Some files) Done tells.text) tells.is
 
 -- what a sweep leaves
-abbrev SweepComesTo : (files left : Option Files) → Limits → CertKind → (cert : List ℕ) → Bool → ℕ → PackageList → Status → Type 0
+abbrev pub SweepComesTo : (files left : Option Files) → Limits → CertKind → (cert : List ℕ) → Bool → ℕ → PackageList → Status → Type 0
 SweepComesTo files left limits kind cert essential limit r status =
     IsCarriedOut status ⊎ ((text : List ℕ) × StopsBelowBudget r kind essential limit limits status text × (left ≡ with_file files cert text))
 
-carried_marks : (status : Status) (marked : Bool) → status ≡ marked_status marked → IsCarriedOut status
+pub carried_marks : (status : Status) (marked : Bool) → status ≡ marked_status marked → IsCarriedOut status
 carried_marks status marked is = subst IsCarriedOut (sym is) (mark_carried_out marked)
 
-below_budget : BudgetsSuffice → (r : PackageList) (kind : CertKind) (essential : Bool) (limit : ℕ) (limits : Limits) (what : What) (text : List ℕ)
+pub below_budget : BudgetsSuffice → (r : PackageList) (kind : CertKind) (essential : Bool) (limit : ℕ) (limits : Limits) (what : What) (text : List ℕ)
     → IsFull r kind essential limit limits what text
     → OfSweep r kind essential limit (λ basis h. IsStoppedBy (matter_of r basis) limits h text what × IsBelowBudget limits kind (matter_of r basis) limit what)
 below_budget budgets r kind essential limit limits what text (basis, are, stopped) =
     (basis, are, (stopped, budgets r kind essential limit limits basis text what are stopped))
 
-sweep_comes_to : Laws → (files : Option Files) (limits : Limits) (kind : CertKind) (cert : List ℕ) (essential : Bool) (limit : ℕ) (r : PackageList)
+pub sweep_comes_to : Laws → (files : Option Files) (limits : Limits) (kind : CertKind) (cert : List ℕ) (essential : Bool) (limit : ℕ) (r : PackageList)
     (ending : Ending)
     → Sweeps files limits kind cert essential limit r ending → SweepComesTo files ending.files limits kind cert essential limit r ending.status
 sweep_comes_to laws files limits kind cert essential limit r ending (inl swept) =
@@ -245,12 +245,30 @@ module _ (limits : Limits) (cert named : List ℕ) (limit : ℕ) (files : Option
   abbrev AfterRead : PackageList → Ending → Type 0
   AfterRead r = Then (NamedStage files r.packages named) (AfterNumber r)
 
+-- what the writing of an explanation comes to
+pub explain_comes_to : Laws → (files : Option Files) (limits : Limits) (cert named : List ℕ) (limit : ℕ) (r : PackageList) (number : ℕ) (ending : Ending)
+    → IsNamed r.packages named number → Explains files limits cert limit r number ending
+    → IsCarriedOut ending.status ⊎ ExplainStopsBelow limits cert limit r number ending.status files ending.files
+explain_comes_to laws files limits cert named limit r number ending is_named (inl done) =
+    inl (carried_marks ending.status (leaves_undecided done.made) (ap (λ (x : Ending). x.status) done.is))
+explain_comes_to laws files limits cert named limit r number ending is_named (inr stopped) = let of = stopped.full in inr (record {
+  what = stopped.what;
+  text = stopped.text;
+  stopped = ap (λ (x : Ending). x.status) stopped.is;
+  full = stopped.full;
+  left_is = ap (λ (x : Ending). x.files) stopped.is;
+  relations = of.1.clauses;
+  are_relations = of.1.are_clauses;
+  below = laws.explain_budgets r of.1.clauses number limit limits stopped.what stopped.text (within-from _ r.packages number is_named.found)
+      of.1.are_clauses stopped.full;
+})
+
 explain_ends : Laws → (files : Files) (limits : Limits) (packages cert named : List ℕ) (limit : ℕ) (r : PackageList) (ending : Ending)
     → PackagesStage (Some files) limits packages (Goes r) → CommandDecides (Explain packages cert named limit) (Some files) limits ending
     → ExplainComesTo limits cert named limit r ending.status (Some files) ending.files
 explain_ends laws files limits packages cert named limit r ending read decides = record {
   none = λ nobody. none nobody rest;
-  one = λ number is_named kept. whole number is_named
+  one = λ number is_named kept. explain_comes_to laws (Some files) limits cert named limit r number ending is_named
       (then_goes (NumbersStage (ExplainPasses r limits) (Some files)) (λ _. Explains (Some files) limits cert limit r number)
       (numbers_determined (ExplainPasses r limits) (λ what other. laws.texts.explain_numbers r limits what other order) (Some files)) tt kept ending
       (then_goes (NamedStage (Some files) r.packages named) (AfterNumber limits cert named limit (Some files) r)
@@ -268,21 +286,6 @@ explain_ends laws files limits packages cert named limit r ending read decides =
     none nobody (inl (found, is)) = ap (λ (x : Ending). x.status) is
     none nobody (inr (number, is_named, after)) = absurd (nobody number is_named)
 
-    whole : (number : ℕ) → IsNamed r.packages named number → Explains (Some files) limits cert limit r number ending
-        → IsCarriedOut ending.status ⊎ ExplainStopsBelow limits cert limit r number ending.status (Some files) ending.files
-    whole number is_named (inl done) = inl (carried_marks ending.status (leaves_undecided done.made) (ap (λ (x : Ending). x.status) done.is))
-    whole number is_named (inr stopped) = let of = stopped.full in inr (record {
-      what = stopped.what;
-      text = stopped.text;
-      stopped = ap (λ (x : Ending). x.status) stopped.is;
-      full = stopped.full;
-      left_is = ap (λ (x : Ending). x.files) stopped.is;
-      relations = of.1.clauses;
-      are_relations = of.1.are_clauses;
-      below = laws.explain_budgets r of.1.clauses number limit limits stopped.what stopped.text (within-from _ r.packages number is_named.found)
-          of.1.are_clauses stopped.full;
-    })
-
 -- ---- `repair`
 
 -- the rest of a run behind each stage
@@ -296,12 +299,27 @@ module _ (limits : Limits) (cert named : List ℕ) (most limit : ℕ) (files : O
   abbrev AfterNewest : PackageList → Ending → Type 0
   AfterNewest newest = Then (NamedStage files newest.packages named) (AfterName newest)
 
+-- what the writing of a repair comes to
+pub repair_comes_to : Laws → (files : Option Files) (limits : Limits) (cert : List ℕ) (most limit : ℕ) (space : SpaceView) (number : ℕ) (ending : Ending)
+    → Repairs files limits cert most limit space number ending
+    → IsCarriedOut ending.status ⊎ RepairStopsBelow limits cert most limit space number ending.status files ending.files
+repair_comes_to laws files limits cert most limit space number ending (inl done) =
+    inl (carried_marks ending.status (is_undecided done.made) (ap (λ (x : Ending). x.status) done.is))
+repair_comes_to laws files limits cert most limit space number ending (inr stopped) = inr (record {
+  what = stopped.what;
+  text = stopped.text;
+  stopped = ap (λ (x : Ending). x.status) stopped.is;
+  full = stopped.full;
+  left_is = ap (λ (x : Ending). x.files) stopped.is;
+  below = laws.repair_budgets space (header_with limit number most) limits stopped.what stopped.text stopped.full;
+})
+
 repair_ends : Laws → (files : Files) (limits : Limits) (packages cert named : List ℕ) (most limit : ℕ) (newest : PackageList) (ending : Ending)
     → IsNewestIn (Some files) limits packages newest → CommandDecides (RepairLine packages cert named most limit) (Some files) limits ending
     → RepairComesTo limits cert named most limit newest ending.status (Some files) ending.files
 repair_ends laws files limits packages cert named most limit newest ending read decides = record {
   none = λ nobody. none nobody rest;
-  one = λ number space is_named made kept. whole number space
+  one = λ number space is_named made kept. repair_comes_to laws (Some files) limits cert most limit space number ending
       (then_goes (NumbersStage (PassesWith space most limits) (Some files)) (λ _. Repairs (Some files) limits cert most limit space number)
       (counted_determined laws.texts (Some files) space most limits) tt kept ending
       (then_goes (PlainSpaceStage (Some files) limits newest) (AfterSpace limits cert named most limit (Some files) number)
@@ -319,18 +337,6 @@ repair_ends laws files limits packages cert named most limit newest ending read 
         → ending.status ≡ NoSuchPackage
     none nobody (inl (found, is)) = ap (λ (x : Ending). x.status) is
     none nobody (inr (number, is_named, after)) = absurd (nobody number is_named)
-
-    whole : (number : ℕ) (space : SpaceView) → Repairs (Some files) limits cert most limit space number ending
-        → IsCarriedOut ending.status ⊎ RepairStopsBelow limits cert most limit space number ending.status (Some files) ending.files
-    whole number space (inl done) = inl (carried_marks ending.status (is_undecided done.made) (ap (λ (x : Ending). x.status) done.is))
-    whole number space (inr stopped) = inr (record {
-      what = stopped.what;
-      text = stopped.text;
-      stopped = ap (λ (x : Ending). x.status) stopped.is;
-      full = stopped.full;
-      left_is = ap (λ (x : Ending). x.files) stopped.is;
-      below = laws.repair_budgets space (header_with limit number most) limits stopped.what stopped.text stopped.full;
-    })
 
 -- what the newest versions of LATER come to, by those of PACKAGES
 told_later : (files : Option Files) (space : SpaceView) (l : PackageList) (ending : Ending) (tells : TellsLater files space l ending)

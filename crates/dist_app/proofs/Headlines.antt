@@ -373,7 +373,7 @@ module _ (limits : Limits) (packages cert journal : List ℕ) (desk desk' : Desk
 module _ (words : List (List ℕ)) (limits : Limits) (result : Status) (desk desk' : DeskView) (out out' err err' : SinkView)
     (runs : Runs words limits result desk desk' out out' err err') where
   -- a status that no end has which may come at any time
-  decided : result ≢ ReadFault → result ≢ WriteFault → result ≢ NoMemory → (line : CommandLine) → command_of words ≡ Some line
+  pub decided : result ≢ ReadFault → result ≢ WriteFault → result ≢ NoMemory → (line : CommandLine) → command_of words ≡ Some line
       → CommandDecides line desk.files limits runs.ending
   decided read written stored line is = of_line words desk.files limits line runs.ending is (decides runs.comes)
     where

@@ -1,5 +1,6 @@
 mod CommandLaws
 mod Completes
+mod Stopped
 mod Endings
 mod Headlines
 mod Judgements

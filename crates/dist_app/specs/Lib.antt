@@ -3,3 +3,4 @@ pub mod Complete
 pub mod Headline
 pub mod LawsPrivate
 pub mod Run
+pub mod Stopped

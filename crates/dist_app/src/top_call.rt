@@ -5,6 +5,7 @@ ghost use Rattle.dist_commands.specs.StatedLimits.{IsWithinStated, stated_limits
 ghost use Rattle.dist_app.specs.Complete.{IsComplete};
 ghost use Rattle.dist_app.specs.Headline.{CheckExplainIsProved, CheckIsProved, CheckRepairIsProved, ExplainIsProved, FollowIsProved, MarksAreTried, RepairIsProved, StepsAreProved, SweepIsProved, UndecidedAreHard};
 ghost use Rattle.dist_app.specs.Run.{Leaves, Runs};
+ghost use Rattle.dist_app.specs.Stopped.{StopsLow};
 ghost use Rattle.dist_app.specs.CarriedPrivate.{IsAnswered, IsRefused, Prints};
 
 use crate::laws::laws_hold;
@@ -44,6 +45,7 @@ pub fn run<D: Desk, W: Sink, E: Sink>(
         (W.view out.old) (W.view out.new) }
     ensures complete { IsComplete (map string_bytes words.now) stated_limits result (D.view desk.old) (D.view desk.new)
         (W.view out.old) (W.view out.new) }
+    ensures stopped { StopsLow (map string_bytes words.now) stated_limits result (D.view desk.old).files (D.view desk.new).files }
     ensures hard { UndecidedAreHard stated_limits }
     ensures tried { MarksAreTried stated_limits }
 {
@@ -81,6 +83,7 @@ pub fn run_with<D: Desk, W: Sink, E: Sink>(
         (W.view out.old) (W.view out.new) }
     ensures complete { IsComplete (map string_bytes words.now) limits.now result (D.view desk.old) (D.view desk.new)
         (W.view out.old) (W.view out.new) }
+    ensures stopped { StopsLow (map string_bytes words.now) limits.now result (D.view desk.old).files (D.view desk.new).files }
     ensures hard { UndecidedAreHard limits.now }
     ensures tried { MarksAreTried limits.now }
 {

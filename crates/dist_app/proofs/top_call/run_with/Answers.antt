@@ -1,6 +1,7 @@
 use Rattle.dist_app.proofs.Completes.{run_completes}
 use Rattle.dist_app.proofs.Headlines.{check_explain_proved, check_proved, check_repair_proved, explain_proved, follow_proved, repair_proved}
 use Rattle.dist_app.proofs.Headlines.{steps_proved, sweep_proved}
+use Rattle.dist_app.proofs.Stopped.{stops-low}
 use Rattle.dist_app.proofs.top_call.run_with.Goals as goal
 
 pub returns-clause-runs : goal.returns-clause-runs
@@ -52,6 +53,11 @@ returns-clause-follow g c =
 pub returns-clause-complete : goal.returns-clause-complete
 returns-clause-complete g c =
     run_completes c.laws_hold.ensures _ c.args.limits.now c.finish.result (g.D.Desk.view c.args.desk.now) (g.D.Desk.view c.finish.new.desk)
+    (g.W.Sink.view c.args.out.now) (g.W.Sink.view c.finish.new.out) (g.E.Sink.view c.args.err.now) (g.E.Sink.view c.finish.new.err) c.finish.ensures
+
+pub returns-clause-stopped : goal.returns-clause-stopped
+returns-clause-stopped g c =
+    stops-low c.laws_hold.ensures _ c.args.limits.now c.finish.result (g.D.Desk.view c.args.desk.now) (g.D.Desk.view c.finish.new.desk)
     (g.W.Sink.view c.args.out.now) (g.W.Sink.view c.finish.new.out) (g.E.Sink.view c.args.err.now) (g.E.Sink.view c.finish.new.err) c.finish.ensures
 
 pub returns-clause-hard : goal.returns-clause-hard
