@@ -218,13 +218,12 @@ module _ {K X : Type 0} where
             absurd (unheld (any-contained (λ (n : Package). n.name ≡ name) (packages_in es) (package_of v) found.0 found.1))
 
     -- the one package of a name
-    pub only-found : (es : List (K × X)) (name : List ℕ) (v : X) → AreNamed es → IsStrictlySortedBy key_order (keys_of es)
+    pub only-found : (es : List (K × X)) (name : List ℕ) (v : X) → AreNamed es → IsFlat (packages_in es)
         → lookup (is_at (at_name name)) es ≡ Some v → (p : Package) → (Some (package_of v) ≡ Some p) ↔ IsHeldAs (packages_in es) name p
-    only-found es name v named sorted is p =
+    only-found es name v named flat is p =
         let found = entry-found es name v named is in (
           (λ same. let here : package_of v ≡ p = cc in subst (λ (x : Package). IsHeldAs (packages_in es) name x) here found),
-          λ held. ap (λ (x : Package). Some x) (one-named (packages_in es) (package_of v) p (entries-flat es named sorted) found.0 held.0
-              (found.1 ∙ sym held.1)),
+          λ held. ap (λ (x : Package). Some x) (one-named (packages_in es) (package_of v) p flat found.0 held.0 (found.1 ∙ sym held.1)),
         )
 
     pub none-found : (es : List (K × X)) (name : List ℕ) → AreNamed es → lookup (is_at (at_name name)) es ≡ None

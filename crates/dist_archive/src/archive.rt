@@ -49,9 +49,7 @@ impl Model for Archive {
 pub fn start(alloc: Global, space: Space) -> Result<Archive, AllocError>
     ensures { IfOk result (λ archive. archive ≡ record { space = space; packages = space.repository.packages }) }
 {
-    // What these calls tell is that it is a space, and that its packages are few.
-    let _variables = space.variables();
-    let _repo = space.repo();
+    space.keeps_invariant();
     let slots = Slots::new(alloc, space.package_count())?;
     let held = Held::new(alloc, space.clusters().len())?;
     let places = EntryPlaces::new(alloc, space.repo())?;
@@ -101,6 +99,13 @@ impl Archive {
         self.slots.filled() + self.names.len() as u32
     }
 
+    /// What is held is a future. Does nothing.
+    pub fn keeps_invariant(&self)
+        ensures { IsFuture self.now.space.repository self.now.packages }
+    {
+        self.len();
+    }
+
     /// The package that is held of the name of a package of the repository.
     pub(crate) fn at(&self, number: u32) -> Option<&Package>
         requires { number < length self.now.space.repository.packages }
@@ -128,8 +133,7 @@ impl Archive {
     {
         let done = self.take(&step);
         let_go(step);
-        // What this call tells is that the archive is a future still.
-        let _count = self.len();
+        self.keeps_invariant();
         done
     }
 

@@ -36,8 +36,7 @@ impl Archive {
         ensures { MatchResult result (λ _. IsFree self.now.space.repository self.now.packages fresh.now)
             (IsNameFault self.now.space.repository self.now.packages fresh.now) }
     {
-        // What this call tells is that the text is a version's.
-        let _text = fresh.version.text();
+        fresh.version.keeps_invariant();
         let name = fresh.name.bytes();
         if self.is_in_use(name) {
             return Err(StepError::NameTaken);

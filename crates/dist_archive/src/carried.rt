@@ -18,8 +18,7 @@ fn is_at(entry: &Provide, version: &Version) -> bool
 {
     match &entry.version {
         Some(own) => {
-            // What this call tells is that the text is a version's.
-            let _text = own.text();
+            own.keeps_invariant();
             own.compare(version).is_eq()
         }
         None => false,
@@ -124,8 +123,7 @@ fn are_found(old: &Package, new: &Package, places: &[u32]) -> bool
 pub(crate) fn is_new_of(old: &Package, new: &Package, places: &[u32]) -> bool
     ensures { IsTrue result ↔ IsNewOf old.now new.now }
 {
-    // What this call tells is that the text is a version's.
-    let _text = new.version.text();
+    new.version.keeps_invariant();
     new.name == old.name
         && (are_found(old, new, places)
             || are_carried(&old.version, &new.version, &old.provides, &new.provides))

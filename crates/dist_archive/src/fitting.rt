@@ -33,8 +33,7 @@ fn is_fresh(repo: &Repository, fresh: &Package) -> bool
     requires { ¬ IsTaken repo.now fresh.now.name }
     ensures { IsTrue result ↔ (IsOfNewName fresh.now.name fresh.now × (¬ IsProvided repo.now fresh.now.name)) }
 {
-    // What this call tells is that the text is a version's.
-    let _text = fresh.version.text();
+    fresh.version.keeps_invariant();
     if is_provided(repo, fresh.name.bytes()) {
         return false;
     }
@@ -49,8 +48,7 @@ fn is_later(space: &Space, number: u32, fresh: &Package) -> bool
     requires { IsPackageAnd space.now.repository.packages number (λ q. q.name ≡ fresh.now.name) }
     ensures { IsTrue result ↔ IsLater space.now.repository fresh.now }
 {
-    // What this call tells is that it is a space.
-    let _variables = space.variables();
+    space.keeps_invariant();
     if !is_new_of(space.package(number), fresh, &[]) {
         return false;
     }
@@ -62,8 +60,7 @@ fn first_found(space: &Space, later: &Repository, place: u32, number: u32) -> Op
     requires { IsNext space.now later.now.packages place number found.Nothing }
     ensures { Takes space.now later.now.packages place number result }
 {
-    // What this call tells is that names are apart.
-    let _variables = space.variables();
+    space.keeps_invariant();
     let fresh = later.package(place);
     if same(fresh, space.package(number)) {
         return Some(Found::Kept);
@@ -79,8 +76,7 @@ fn more_kept(space: &Space, later: &Repository, place: u32, number: u32) -> Opti
     requires { IsNext space.now later.now.packages place number found.Kept }
     ensures { Takes space.now later.now.packages place number result }
 {
-    // What this call tells is that names are apart.
-    let _variables = space.variables();
+    space.keeps_invariant();
     if !same(later.package(place), space.package(number)) {
         return None;
     }
@@ -111,8 +107,7 @@ fn more_later(
     requires { IsNext space.now later.now.packages place number (found.New first) }
     ensures { Takes space.now later.now.packages place number result }
 {
-    // What this call tells is that names are apart.
-    let _variables = space.variables();
+    space.keeps_invariant();
     if !is_later(space, number, later.package(place)) {
         return None;
     }
@@ -153,8 +148,7 @@ fn take_own(
     ensures fits { OnTrue result (AreChecked space.now later.now.packages (place + 1) founds.new.items) }
     ensures misfit { OnFalse result (IsFirstMisfit space.now.repository later.now.packages place) }
 {
-    // What this call tells is that each package has its cluster.
-    let _variables = space.variables();
+    space.keeps_invariant();
     let cluster = space.cluster_of(number) as usize;
     match next_found(space, later, place, number, founds[cluster]) {
         Some(next) => {
@@ -172,8 +166,7 @@ fn take_package(space: &Space, later: &Repository, place: u32, founds: &mut Vec<
     ensures fits { OnTrue result (AreChecked space.now later.now.packages (place + 1) founds.new.items) }
     ensures misfit { OnFalse result (IsFirstMisfit space.now.repository later.now.packages place) }
 {
-    // What this call tells is that each package has its cluster.
-    let _variables = space.variables();
+    space.keeps_invariant();
     let repo = space.repo();
     let candidate = later.package(place);
     match number_named(repo, candidate.name.bytes()) {
@@ -202,8 +195,7 @@ pub(crate) fn check(
     ensures { MatchResult result (λ founds. AreChecked space.now later.now.packages (length later.now.packages) founds.items)
         (IsReason space.now.repository later.now.packages) }
 {
-    // What this call tells is that it is a space.
-    let _variables = space.variables();
+    space.keeps_invariant();
     let mut founds = nothing_found(alloc, space.clusters().len())?;
     for place in 0..later.len() {
         if !take_package(space, later, place, &mut founds) {

@@ -19,8 +19,7 @@ impl Archive {
         ensures within { IfSome result (λ cluster. cluster < length self.now.space.clusters.members) }
     {
         let space = self.space();
-        // What this call tells is that it is a space.
-        let _variables = space.variables();
+        space.keeps_invariant();
         let number = number_named(space.repo(), name)?;
         Some(space.clusters().cluster_of(number))
     }
@@ -60,14 +59,12 @@ impl Archive {
             → version_cmp found.now version ≡ Equal) }
     {
         let space = self.space();
-        // What this call tells is that it is a space.
-        let _variables = space.variables();
+        space.keeps_invariant();
         let members = space.clusters().members(cluster);
         let Some(least) = self.at(members[0]) else {
             return None;
         };
-        // What this call tells is that the text is a version's.
-        let _text = least.version.text();
+        least.version.keeps_invariant();
         if !is_above_top(space, cluster, &least.version) {
             return None;
         }

@@ -1,5 +1,5 @@
 //! The packages of new names that are held, by their names.
-ghost use Rattle.std.specs.Prelude.{◌≡◌, ◌↔◌, ◌⊎◌, ◌≢◌, ◌+◌, ◌≤◌, [], Contains, IfOk, IsTrue, OnErr, OnOk, Some, length};
+ghost use Rattle.std.specs.Prelude.{◌≡◌, ◌↔◌, ◌⊎◌, ◌≢◌, ◌+◌, ◌≤◌, [], Contains, IsTrue, OnErr, OnOk, Some, length};
 ghost use Rattle.std.specs.Option.{option_copied};
 ghost use Rattle.dist_repo.specs.Order.{IsFlat};
 ghost use Rattle.dist_repo.specs.declared.package.Package.{Package};
@@ -43,17 +43,22 @@ impl NewNames {
     /// How many there are.
     pub(crate) fn len(&self) -> usize
         ensures value { result ≡ length self.now }
-        ensures flat { IsFlat self.now }
     {
         self.packages.len()
+    }
+
+    /// There is one package of each name. Does nothing.
+    fn keeps_invariant(&self)
+        ensures { IsFlat self.now }
+    {
+        self.packages.len();
     }
 
     /// The package of a name.
     pub(crate) fn get(&self, name: &[u8]) -> Option<&Package>
         ensures { (p : Package) → (option_copied result ≡ Some p) ↔ IsHeldAs self.now name.now p }
     {
-        // What this call tells is that the names are in order.
-        let _count = self.packages.len();
+        self.keeps_invariant();
         match self.packages.get(name) {
             Some(package) => Some(package),
             None => None,

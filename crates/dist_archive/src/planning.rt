@@ -81,8 +81,7 @@ fn block_of(
     ensures in_order { IfOk result (λ block. IsInOrder block.packages) }
     ensures brings { IfOk result (λ block. AreBrought space.now.repository later.now.packages members.now block.packages) }
 {
-    // What this call tells is that packages are few.
-    let _count = space.package_count();
+    space.keeps_invariant();
     let mut builder = Builder::new(alloc);
     for member in members {
         put_named(&mut builder, later, space.package(*member).name.bytes())?;
@@ -103,8 +102,7 @@ fn push_upload(
     requires some { (c : Package) → IsOfCluster space.now cluster c → HasLater space.now.repository later.now.packages c }
     ensures { OnOk result (ArePushed steps.old.items steps.new.items (IsPart space.now later.now.packages cluster)) }
 {
-    // What this call tells is that it is a space.
-    let _variables = space.variables();
+    space.keeps_invariant();
     let block = block_of(alloc, space, later, space.clusters().members(cluster))?;
     let version = block.package(0).version.try_clone()?;
     steps.push(Step::Upload(cluster, version, block))?;
@@ -154,8 +152,7 @@ fn push_missing(
     requires none { (c : Package) → IsOfCluster space.now cluster c → ¬ HasLater space.now.repository later.now.packages c }
     ensures { OnOk result (ArePushed steps.old.items steps.new.items (IsPart space.now later.now.packages cluster)) }
 {
-    // What this call tells is that it is a space.
-    let _variables = space.variables();
+    space.keeps_invariant();
     push_removals(space, later, space.clusters().members(cluster), steps)
 }
 
@@ -175,8 +172,7 @@ fn push_part(
         → IsFound space.now.repository later.now.packages (length later.now.packages) c found }
     ensures { OnOk result (ArePushed steps.old.items steps.new.items (IsPart space.now later.now.packages cluster)) }
 {
-    // What this call tells is that it is a space.
-    let _variables = space.variables();
+    space.keeps_invariant();
     match found {
         Found::New(_) => push_upload(alloc, space, later, cluster, steps),
         Found::Nothing => push_missing(space, later, cluster, steps),

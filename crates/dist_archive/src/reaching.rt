@@ -1,5 +1,5 @@
 //! Which later archives steps reach, and by which plan.
-ghost use Rattle.std.specs.Prelude.{◌≡◌, ◌≢◌, ◌↔◌, ℕ, Err, IfOk, IsOk};
+ghost use Rattle.std.specs.Prelude.{◌≢◌, ◌↔◌, ℕ, Err, IfOk, IsOk};
 ghost use Rattle.dist_base.specs.Answers.{IsExactly};
 ghost use Rattle.dist_repo.specs.Order.{IsFlat};
 ghost use Rattle.dist_future.specs.Future.{IsFuture};
@@ -25,8 +25,7 @@ pub fn reach(alloc: Global, space: &Space, later: &Repository) -> Result<Plan, R
     ensures future { result ≢ Err ReachError.NoMemory → (IsOk result ↔ IsFuture space.now.repository later.now.packages) }
     ensures misfit { (number : ℕ) → IsExactly ReachError.NoMemory result (ReachError.NotAFuture number) (IsFirstMisfit space.now.repository later.now.packages number) }
 {
-    // What this call tells is that it is a space.
-    let _variables = space.variables();
+    space.keeps_invariant();
     match check(alloc, space, later) {
         Ok(founds) => plan_of(alloc, space, later, &founds),
         Err(error) => Err(error),

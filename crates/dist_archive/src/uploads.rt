@@ -38,8 +38,7 @@ fn member_named(space: &Space, cluster: u32, name: &[u8]) -> Option<u32>
         (λ number. IsMemberNamed space.now.repository c name.now number) }
     ensures within { IfSome result (λ number. number < length space.now.repository.packages) }
 {
-    // What this call tells is that it is a space.
-    let _variables = space.variables();
+    space.keeps_invariant();
     let number = number_named(space.repo(), name)?;
     if space.clusters().cluster_of(number) != cluster {
         return None;
@@ -121,9 +120,8 @@ pub(crate) fn is_above_top(space: &Space, cluster: u32, version: &Version) -> bo
     requires { cluster < length space.now.clusters.members }
     ensures { (c : Package) → IsOfCluster space.now cluster c → IsTrue result ↔ IsAboveCluster space.now.repository c version.now }
 {
-    // What these calls tell is that it is a space, and that the text is a version's.
-    let _variables = space.variables();
-    let _text = version.text();
+    space.keeps_invariant();
+    version.keeps_invariant();
     space.clusters().top(cluster).compare(version).is_lt()
 }
 
@@ -243,8 +241,7 @@ impl Archive {
             → IsTrue result ↔ IsAboveAll self.now.space.repository self.now.packages c version.now }
     {
         let space = self.space();
-        // What this call tells is that it is a space.
-        let _variables = space.variables();
+        space.keeps_invariant();
         is_above_top(space, cluster, version)
             && self.is_above_each(
                 self.held.of(cluster, space.clusters().members(cluster)),
@@ -294,9 +291,8 @@ impl Archive {
             × RefusesUpload self.old.space.repository self.old.packages c version.now block.now other)) }
         ensures future { IsFuture self.new.space.repository self.new.packages }
     {
-        // What these calls tell is that it is a space, and that the block is in order.
-        let _variables = self.space.variables();
-        let _count = block.len();
+        self.space.keeps_invariant();
+        block.keeps_invariant();
         self.check_upload(cluster, version, block)?;
         let former = self
             .held

@@ -1,7 +1,6 @@
 //! An example of a class: a version of it. It is made where it is printed; to compare it takes no memory.
 ghost use Rattle.std.specs.Prelude.{◌≡◌, ◌↔◌, IfOk, IsTrue};
 ghost use Rattle.dist_version.specs.Order.{version_cmp};
-ghost use Rattle.dist_version.specs.Spelling.{IsVersion};
 ghost use Rattle.dist_relation.specs.Satisfies.{Satisfies};
 ghost use Rattle.dist_classes.specs.ClassList.{HasExample, HasVersions, IsOfClass, example_text};
 
@@ -86,19 +85,12 @@ pub fn class_has_example(class: &Class)
 {
     versions_are_dense();
     match class {
-        Class::Point(version) => is_version(version),
-        Class::Between(low, _) => is_version(low),
-        Class::Above(low) => is_version(low),
+        Class::Point(version) => version.keeps_invariant(),
+        Class::Between(low, _) => low.keeps_invariant(),
+        Class::Above(low) => low.keeps_invariant(),
         Class::Below(_) => {}
         Class::Any => {}
     }
-}
-
-/// A version's text is one.
-fn is_version(version: &Version)
-    ensures { IsVersion version.now }
-{
-    let _ = version.text();
 }
 
 /// A version of a class. There is none in one between two versions of which the first is not below the second.

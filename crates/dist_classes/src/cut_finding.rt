@@ -1,7 +1,6 @@
 //! The classes of a cluster and of a new name: their cuts are the versions that atoms have in bounds on their names.
-ghost use Rattle.std.specs.Prelude.{◌≡◌, ◌<◌, ◌↔◌, ◌⊎◌, [], ℕ, List, All, Any, Contains, IfOk, IsSomeAnd, IsTrue, OnOk, length, slice_get, slice_index_or};
+ghost use Rattle.std.specs.Prelude.{◌≡◌, ◌<◌, ◌↔◌, [], All, Contains, IfOk, IsTrue, OnOk, length, slice_index_or};
 ghost use Rattle.dist_version.specs.Order.{IsBelow};
-ghost use Rattle.dist_repo.specs.PackageList.{IsPackageAnd};
 ghost use Rattle.dist_classes.specs.Answers.{AreClassesOf, AreClassesOfName, AreClustersOf};
 ghost use Rattle.dist_classes.specs.Atoms.{IsBoundOn};
 ghost use Rattle.dist_classes.specs.Cuts.{IsClusterCut, IsNameOfCluster};

@@ -3,8 +3,6 @@ ghost use Rattle.std.specs.Prelude.{◌≡◌, [], ◌<◌, ◌↔◌, ℕ, List
 ghost use Rattle.std.specs.Cmp.Lexicographic.{slice_cmp};
 ghost use Rattle.std.specs.List.Sorted.{IsStrictlySortedBy};
 ghost use Rattle.std.specs.Ordering.{nat_cmp};
-ghost use Rattle.dist_repo.specs.Match.{IsUsable};
-ghost use Rattle.dist_repo.specs.Providers.{IsProvider};
 ghost use Rattle.dist_classes.specs.NewNames.{AreNewNames, IsFreshAtom};
 ghost use Rattle.dist_classes.specs.Table.{Adds};
 

@@ -1,6 +1,6 @@
 -- Laws of clauses made from demands: there is one list of them, fronts of it, and the limit that they pass first. No
 -- public clause cites them; proofs of the crates above do.
-use Rattle.std.proofs.Common.{◌≡◌, ◌⊎◌, ◌<◌, ◌≤◌, ◌+◌, ℕ, List, [], ◌∷◌, ◌++◌, length, length-append, get_or, map, refl}
+use Rattle.std.proofs.Common.{◌≡◌, ◌⊎◌, ◌<◌, ◌≤◌, ◌+◌, ℕ, List, [], ◌∷◌, ◌++◌, length, length-append, get_or, refl}
 use Rattle.std.proofs.Common.{sym, ap, subst, ◌∙◌, arith, inl, inr}
 use Rattle.std.specs.Prelude.{Any, IfErr, IfOk, OnOk, Result, Ok, Err}
 use Rattle.std.proofs.lemmas.List.{get_or_default, map-append}

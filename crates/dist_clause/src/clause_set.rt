@@ -76,6 +76,16 @@ impl ClauseSet {
         self.clauses.len() as u32
     }
 
+    /// The set has at most as many variables and clauses as may be, and is within its limits. Does nothing.
+    pub fn keeps_invariant(&self)
+        ensures variables { self.now.variables ≤ MAX_VARIABLES }
+        ensures clauses { length self.now.clauses ≤ MAX_CLAUSES }
+        ensures within { IsWithinLimits self.now }
+    {
+        self.variables();
+        self.len();
+    }
+
     /// The clause of a number; the first one has the number 1.
     pub fn clause(&self, number: u32) -> &[Lit]
         requires from_one { 1 ≤ number }

@@ -1,5 +1,5 @@
 -- All members have a partition: it is found member by member, as the code finds it, and no memory is asked for.
-use Rattle.std.proofs.Common.{◌≡◌, ℕ, zero, suc, ◌+◌, ◌<◌, ◌≤◌, List, [], ◌∷◌, ◌++◌, length, get_or, set, cond, Some, None, Option, Ordering, Less, Equal}
+use Rattle.std.proofs.Common.{◌≡◌, ℕ, zero, suc, ◌+◌, ◌≤◌, List, [], ◌∷◌, ◌++◌, length, get_or, set, cond, Some, None, Option, Ordering, Less, Equal}
 use Rattle.std.proofs.Common.{Greater, is_eq, refl, ap, subst, ◌∙◌, arith, slice_get}
 use Rattle.std.specs.BTreeMap.{is_at}
 use Rattle.std.specs.Ordering.{ordering_reverse}

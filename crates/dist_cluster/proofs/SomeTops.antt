@@ -1,5 +1,5 @@
 -- Each cluster of a partition has a top: the members are gone through, and no memory is asked for.
-use Rattle.std.proofs.Common.{◌≡◌, ◌≢◌, ℕ, zero, suc, ◌+◌, ◌-◌, ◌<◌, ◌≤◌, List, [], ◌++◌, ◌∷◌, length, get_or, take, Some, Ordering, Less, Equal, Greater, refl}
+use Rattle.std.proofs.Common.{◌≡◌, ℕ, zero, suc, ◌+◌, ◌-◌, ◌<◌, ◌≤◌, List, [], ◌++◌, ◌∷◌, length, get_or, take, Some, Ordering, Less, Equal, Greater, refl}
 use Rattle.std.proofs.Common.{subst, arith, slice_get}
 use Rattle.std.specs.Prelude.{Contains, IsSomeAnd}
 use Rattle.std.proofs.lemmas.List.{get_or_default, take_all}
@@ -9,7 +9,7 @@ use Rattle.dist_cluster.specs.Found.{top_cmp}
 use Rattle.dist_cluster.specs.Partition.{IsClusterOf, IsPartition}
 use Rattle.dist_cluster.specs.Relation.{Member, AreClustered}
 use Rattle.dist_cluster.specs.Top.{AreTops, IsTop}
-use Rattle.dist_cluster.proofs.Places.{some-of, standing, stands-default}
+use Rattle.dist_cluster.proofs.Places.{some-of, standing}
 use Rattle.dist_cluster.proofs.TopLemmas.{AreTopsSoFar, IsHighest, highest-first, highest-next, highest-still, top-highest, tops-all, tops-more, tops-none}
 
 module _ (members : List Member) (cluster : List ℕ) (whole : (n : ℕ) → Contains cluster n → (member : Member) × (slice_get members n ≡ Some member)) where

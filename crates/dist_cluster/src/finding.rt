@@ -1,8 +1,8 @@
 //! How clusters are found: the members are gone through once, and a map has the number of the cluster of each that was seen.
-ghost use Rattle.std.specs.Prelude.{◌≡◌, ◌+◌, ◌^◌, ◌<◌, ◌++◌, ◌∷◌, [], All, IfOk, OnOk, length, slice_index_or, slice_set};
+ghost use Rattle.std.specs.Prelude.{◌≡◌, ◌+◌, ◌<◌, ◌++◌, ◌∷◌, [], All, IfOk, OnOk, length, slice_index_or, slice_set};
 ghost use Rattle.dist_cluster.specs.Found.{AreFound};
 ghost use Rattle.dist_cluster.specs.Partition.{IsPartition};
-ghost use Rattle.dist_cluster.specs.Top.{AreTops, IsTop};
+ghost use Rattle.dist_cluster.specs.Top.{AreTops};
 
 use crate::cluster_list::Clusters;
 use crate::key_list::{ClusterKey, Entry, Keys};

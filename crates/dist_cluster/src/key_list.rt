@@ -1,5 +1,5 @@
 //! The packages of which clusters are made: the name and version of the source, and the version of each.
-ghost use Rattle.std.specs.Prelude.{◌≡◌, ◌++◌, ◌∷◌, [], ℕ, List, IfOk, OnOk, OnErr};
+ghost use Rattle.std.specs.Prelude.{◌≡◌, ◌++◌, ◌∷◌, [], List, IfOk, OnOk, OnErr};
 ghost use Rattle.dist_version.specs.Between.{without_rebuild_text};
 ghost use Rattle.dist_cluster.specs.Relation.{Member};
 ghost use Rattle.dist_cluster.specs.TotalLaws.{member_cmp};

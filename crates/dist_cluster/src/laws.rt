@@ -1,5 +1,5 @@
 //! Laws of clusters, apart from the work: what holds of all packages. The functions do nothing.
-ghost use Rattle.std.specs.Prelude.{◌≡◌, ◌<◌, ℕ, List, length};
+ghost use Rattle.std.specs.Prelude.{◌≡◌, ℕ, List};
 ghost use Rattle.dist_cluster.specs.Partition.{IsIn, IsPartition};
 ghost use Rattle.dist_cluster.specs.Relation.{Member, AreClustered};
 ghost use Rattle.dist_cluster.specs.Top.{AreTops, IsTop};

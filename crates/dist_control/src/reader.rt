@@ -1,5 +1,5 @@
 //! The reader of the stanzas of a text.
-ghost use Rattle.std.specs.Prelude.{◌≡◌, ℕ, ◌+◌, ◌<◌, ◌^◌, ◌↔◌, [], Ok, None, true, false, length, IsTrue, IsErrOf};
+ghost use Rattle.std.specs.Prelude.{◌≡◌, ◌+◌, ◌<◌, ◌^◌, ◌↔◌, [], Ok, None, true, false, length, IsTrue, IsErrOf};
 ghost use Rattle.dist_base.specs.Answers.{Answers};
 ghost use Rattle.dist_control.specs.Faults.{HasFault};
 ghost use Rattle.dist_control.specs.Lines.{lines};

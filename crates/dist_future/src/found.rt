@@ -1,5 +1,5 @@
 //! The least variable that holds under an assignment and that an atom matches, by the index of names.
-ghost use Rattle.std.specs.Prelude.{◌≡◌, ◌<◌, ◌↔◌, ℕ, Contains, IsTrue, Some, length, slice_get};
+ghost use Rattle.std.specs.Prelude.{◌≡◌, ◌<◌, ◌↔◌, ℕ, Contains, IsTrue, Some, length};
 ghost use Rattle.dist_base.specs.Least.{IsLeastIfAny};
 ghost use Rattle.dist_repo.specs.Match.{IsUsable};
 ghost use Rattle.dist_repo.specs.Offers.{AreMatched};
@@ -8,11 +8,11 @@ ghost use Rattle.dist_future.specs.FutureHealth.{IsOneEach};
 ghost use Rattle.dist_space_clauses.specs.GatheringPrivate.{IsFresh, IsLaterOf, IsOfVersion};
 ghost use Rattle.dist_future.specs.MatchingPrivate.{IsFound, IsLesserOf, IsMovedBut, IsOther, IsPresentBut};
 ghost use Rattle.dist_space.specs.EntryOrder.{IsEntryNamed};
-ghost use Rattle.dist_space.specs.Space.{IsMatchedBy, IsMeaning, member_classes};
+ghost use Rattle.dist_space.specs.Space.{IsMatchedBy, IsMeaning};
 ghost use Rattle.dist_space.specs.declared.meaning.Meaning.TheVariants as meaning;
 
 use dist_clause::Assignment;
-use dist_relation::{Atom, Provide};
+use dist_relation::Atom;
 use dist_repo::Offer;
 use dist_space::{Meaning, Space};
 
@@ -205,8 +205,7 @@ pub(crate) fn found(
     if !repo.usable(&atom.qualifier) {
         return None;
     }
-    // What this call tells is that variables stand in their order.
-    let _variables = space.variables();
+    space.keeps_invariant();
     // Packages as they are today come before all others, and mostly one of them is found.
     if let Some(variable) = present_found(space, members, atom, repo.matched(atom), but) {
         return Some(variable);

@@ -34,8 +34,7 @@ fn class_held(
     requires end { end ≡ length (cluster_classes space.now cluster) }
     ensures { IsLeastIfAny (IsHeldFrom space.now members.now (meaning.At cluster) start) result }
 {
-    // What this call tells is that variables stand in their order.
-    let _variables = space.variables();
+    space.keeps_invariant();
     for class in start..end {
         let variable = space.variable(&Meaning::At(cluster, class));
         if members.value(variable) {
@@ -51,8 +50,7 @@ fn fresh_held(space: &Space, members: &Assignment, name: u32, start: u32, end: u
     requires end { end ≡ length (fresh_classes space.now name) }
     ensures { IsLeastIfAny (IsHeldFrom space.now members.now (meaning.Fresh name) start) result }
 {
-    // What this call tells is that variables stand in their order.
-    let _variables = space.variables();
+    space.keeps_invariant();
     for class in start..end {
         let variable = space.variable(&Meaning::Fresh(name, class));
         if members.value(variable) {

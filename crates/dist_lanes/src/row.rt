@@ -1,6 +1,6 @@
 //! Rows: a truth value at each place.
 
-ghost use Rattle.std.specs.Prelude.{◌≡◌, ◌&&◌, ◌+◌, ◌<◌, ◌≤◌, ◌↔◌, [], ℕ, true, false, count_by, length, replicate, IfNone, IfOk, IfSome, IsTrue, slice_index_or};
+ghost use Rattle.std.specs.Prelude.{◌≡◌, ◌&&◌, ◌<◌, ◌≤◌, ◌↔◌, [], ℕ, true, false, count_by, length, replicate, IfNone, IfOk, IfSome, IsTrue};
 ghost use Rattle.std.specs.Prelude.{slice_set};
 ghost use Rattle.dist_lanes.specs.Rows.{value_at, both, IsSubset, Meets, IsAllFalse, AreFalseUpTo};
 

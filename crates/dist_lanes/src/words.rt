@@ -1,7 +1,7 @@
 //! Words of bits: one bit, and all of them eight words at a time.
 
 ghost use Rattle.std.specs.Prelude.{◌≡◌, ◌≢◌, ◌+◌, ◌*◌, ◌/◌, ◌^◌, ◌<◌, ◌≤◌, ◌↔◌, ℕ, true, false, length, IfNone, IfSome, IsTrue, slice_index, bit_and};
-ghost use Rattle.std.specs.Prelude.{sum_by, count_ones, take};
+ghost use Rattle.std.specs.Prelude.{sum_by, count_ones};
 ghost use Rattle.std.specs.Simd.Lanes.{zip2, chunk, put_chunk};
 ghost use Rattle.dist_lanes.specs.Bits.{bit, SetsBit};
 ghost use Rattle.dist_lanes.specs.BitsPrivate.{AreClear, AreWords, Conjoins, FillsPlaces};

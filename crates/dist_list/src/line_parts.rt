@@ -1,5 +1,5 @@
 //! The parts of a line of LIST: what stands between spaces and tabs.
-ghost use Rattle.std.specs.Prelude.{◌≡◌, ◌≤◌, false, not, length, drop};
+ghost use Rattle.std.specs.Prelude.{◌≡◌, ◌≤◌, not, length};
 ghost use Rattle.std.specs.List.{prefix_len};
 ghost use Rattle.dist_base.specs.Ascii.{is_padding};
 ghost use Rattle.dist_list.specs.LineParts.{parts_of, with_part};

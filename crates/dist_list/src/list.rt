@@ -111,7 +111,7 @@ fn mark_line(
         Line::Blank => Ok(true),
         Line::Package(number) => {
             // A number of a package is below their number, which fits.
-            let _ = repository.len();
+            repository.keeps_invariant();
             members.set(number + 1, true);
             Ok(true)
         }

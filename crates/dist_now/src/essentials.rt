@@ -16,8 +16,7 @@ pub(crate) fn has_essential_before(
     requires last { IsLastEssential repo.now number last }
     ensures { IsTrue result ↔ IsNamedBelow repo.now number «package».now.name }
 {
-    // What this call tells is that packages are in order.
-    let _end = repo.len();
+    repo.keeps_invariant();
     match last {
         Some(before) => repo.package(before).name == package.name,
         None => false,

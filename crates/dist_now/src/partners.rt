@@ -98,8 +98,7 @@ impl<'a> Partners<'a> {
         ensures same { self.new ≡ self.old }
         ensures adds { OnOk result (Adds numbers.old.items numbers.new.items (IsPartner self.old number)) }
     {
-        // What this call tells is that packages are in order.
-        let _end = self.repo.len();
+        self.repo.keeps_invariant();
         turn_to(self.repo, number, &mut self.kept)?;
         let start = place_of(&self.kept.pairs, number);
         add_partners(&self.kept.pairs, number, start, numbers)?;

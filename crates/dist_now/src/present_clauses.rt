@@ -168,8 +168,7 @@ fn gather_apart(
     ensures exact { OnOk result ((second : ℕ) → Contains numbers.new.items second ↔ IsDemand repo.now false (Apart first second)) }
     ensures split { IfOk result (λ end. AreSplitAt pairs.now (first + 1) end) }
 {
-    // What this call tells is that packages are in order.
-    let _end = repo.len();
+    repo.keeps_invariant();
     numbers.clear();
     add_versions(repo, first, repo.package(first), numbers)?;
     let end = add_partners(pairs, first, start, numbers)?;
@@ -265,8 +264,7 @@ fn push_name(
     ensures ok { OnOk result (IsNamedFront repo.now (number + 1) set.old set.new) }
     ensures err { IfErr result (IsCauseAt repo.now true set.old) }
 {
-    // What this call tells is that packages are in order.
-    let _end = repo.len();
+    repo.keeps_invariant();
     if !package.essential || has_essential_before(repo, last, number, package) {
         return Ok(());
     }
@@ -317,8 +315,7 @@ fn made_clauses(
     if essential {
         push_names(repo, &mut scratch, &mut set)?;
     }
-    // What this call tells is that the set is within its limits.
-    let _count = set.len();
+    set.keeps_invariant();
     Ok(set)
 }
 

@@ -1,7 +1,7 @@
 //! Which packages reject one another: pairs of numbers, the lesser one first, of packages of which a conflict atom of one
 //! matches the other. They are looked for at some lesser numbers at a time, so that no file asks for much more memory
 //! than the clauses themselves may take.
-ghost use Rattle.std.specs.Prelude.{◌≡◌, ◌≢◌, ◌<◌, ◌≤◌, ◌+◌, ◌↔◌, ◌⊎◌, ℕ, false, Any, Contains, IfOk, IfSome, IsTrue, None, OnOk, Some, length, slice_get, slice_index_or};
+ghost use Rattle.std.specs.Prelude.{◌≡◌, ◌≢◌, ◌<◌, ◌≤◌, ◌+◌, ◌↔◌, ℕ, false, Any, Contains, IfOk, IfSome, IsTrue, None, OnOk, Some, length, slice_get};
 ghost use Rattle.std.specs.List.Sorted.{IsNonDecreasingBy};
 ghost use Rattle.dist_asked.specs.AskedPlaces.{AreEnough};
 ghost use Rattle.dist_repo.specs.Match.{IsUsable, Matches};

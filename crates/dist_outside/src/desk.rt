@@ -1,5 +1,5 @@
 //! Where files are.
-ghost use Rattle.std.specs.Prelude.{◌≡◌, ℕ, ◌<◌, ◌≤◌, [], length, take, OnOk, OnErr, IfOk, IsErrOf};
+ghost use Rattle.std.specs.Prelude.{◌≡◌, ◌<◌, ◌≤◌, [], length, take, OnOk, OnErr, IfOk, IsErrOf};
 ghost use Rattle.dist_outside.specs.Counts.{Rose};
 ghost use Rattle.dist_outside.specs.Files.{Idle, Reading, Writing, IsReading, IsWriting, IsNotWriting, where_told, IsPresent};
 ghost use Rattle.dist_outside.specs.DeskView.{DeskView, OnlyReads, Holds, NotCreated, FileGrew, Closed};

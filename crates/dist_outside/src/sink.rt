@@ -1,5 +1,5 @@
 //! Where text goes out.
-ghost use Rattle.std.specs.Prelude.{ℕ, ◌<◌, ◌≤◌, [], length, take, OnErr, IfOk, IfErr};
+ghost use Rattle.std.specs.Prelude.{◌<◌, ◌≤◌, [], length, take, OnErr, IfOk, IfErr};
 ghost use Rattle.dist_outside.specs.SinkView.{SinkView, Grew, SinkCause};
 
 use crate::Trouble;

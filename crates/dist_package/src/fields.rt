@@ -1,5 +1,5 @@
 //! The fields of a stanza that a package is made of, each read by a function of its own.
-ghost use Rattle.std.specs.Prelude.{◌≡◌, ◌↔◌, ℕ, List, None, Some, MatchOption, IsTrue, true, unwrap_or, codes};
+ghost use Rattle.std.specs.Prelude.{◌≡◌, ◌↔◌, None, Some, MatchOption, IsTrue, true, unwrap_or, codes};
 ghost use Rattle.dist_base.specs.Answers.{Answers};
 ghost use Rattle.dist_control.specs.FieldText.{field_text};
 ghost use Rattle.dist_relation.specs.Bytes.{IsName};

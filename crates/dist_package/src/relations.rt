@@ -1,11 +1,10 @@
 //! The fields of relations: what a package needs, what it can't stand beside, and what it provides.
-ghost use Rattle.std.specs.Prelude.{◌≡◌};
 ghost use Rattle.dist_base.specs.Answers.{Answers};
 ghost use Rattle.dist_relation.specs.Faults.{FirstDependsFault, FirstAtomsFault, FirstProvidesFault};
 ghost use Rattle.dist_relation.specs.Grammar.{ReadsDepends, ReadsAtoms, ReadsProvides};
 ghost use Rattle.dist_relation.specs.declared.error.RelationError.{RelationError};
 ghost use Rattle.dist_package.specs.FirstFault.{IsBad, HasFirstRelationFault, relation_fields};
-ghost use Rattle.dist_package.specs.Named.{value_of, line_of, fault_on, relation_field_name};
+ghost use Rattle.dist_package.specs.Named.{value_of, relation_field_name};
 ghost use Rattle.dist_package.specs.PackageOf.{ReadsRelations, IsRelationFault};
 
 use crate::error::{Kind, PackagesError, RelationField};

@@ -1,5 +1,5 @@
 //! Atoms of relations, and entries of Provides.
-ghost use Rattle.std.specs.Prelude.{◌≡◌, ◌↔◌, IsTrue, IfOk};
+ghost use Rattle.std.specs.Prelude.{◌≡◌, ◌↔◌, IsTrue};
 ghost use Rattle.dist_relation.specs.Satisfies.{AllowsOrder, Satisfies};
 ghost use Rattle.dist_relation.specs.EqualityPrivate.{op_eq, qualifier_eq, bound_eq, atom_eq, provide_eq};
 ghost use Rattle.dist_relation.specs.Grammar.{allows_operator};

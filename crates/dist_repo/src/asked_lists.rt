@@ -1,6 +1,6 @@
 //! Which places have to be asked of those lists of atoms of which some don't have to. So what is asked of a list does not cost
 //! the product of its atoms and of what each of them matches, and whoever asks takes no memory for it.
-ghost use Rattle.std.specs.Prelude.{◌≡◌, ◌⊎◌, ◌<◌, ◌^◌, ℕ, List, [], Contains, IfOk, IsTrue, OnOk, Some, length, slice_get};
+ghost use Rattle.std.specs.Prelude.{◌≡◌, ◌⊎◌, ◌<◌, ◌^◌, List, [], Contains, IfOk, IsTrue, OnOk, Some, length, slice_get};
 ghost use Rattle.dist_asked.specs.AskedPlaces.{AreEnough};
 ghost use Rattle.dist_relation.specs.declared.atom.Atom.{Atom};
 ghost use Rattle.dist_repo.specs.AskedPrivate.{AreAskedOfConflicts, AreAskedOfItems};

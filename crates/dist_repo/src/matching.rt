@@ -4,7 +4,6 @@ ghost use Rattle.dist_relation.specs.Satisfies.{Satisfies};
 ghost use Rattle.dist_repo.specs.Conflict.{AreInConflict};
 ghost use Rattle.dist_repo.specs.Match.{IsUsable, Matches, MatchesByEntry, MatchesByName};
 ghost use Rattle.dist_repo.specs.Order.{IsSamePackage};
-ghost use Rattle.dist_repo.specs.Providers.{IsEntryOf, IsProvider};
 
 use crate::package::Package;
 use dist_relation::{Atom, Bound, Name, Provide, Provides, Qualifier, satisfies};

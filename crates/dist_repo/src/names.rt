@@ -1,5 +1,5 @@
 //! A table of names in order, and the place of a name in it.
-ghost use Rattle.std.specs.Prelude.{◌≡◌, ℕ, List, [], Some, Contains, MatchOption, slice_get};
+ghost use Rattle.std.specs.Prelude.{◌≡◌, Some, Contains, MatchOption, slice_get};
 ghost use Rattle.std.specs.Cmp.Lexicographic.{slice_cmp};
 ghost use Rattle.std.specs.List.Sorted.{IsStrictlySortedBy};
 ghost use Rattle.std.specs.Ordering.{nat_cmp};

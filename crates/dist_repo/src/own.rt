@@ -1,5 +1,5 @@
 //! What packages offer of their own names, in the order of packages. The offers of a name stand together, in the order of versions.
-ghost use Rattle.std.specs.Prelude.{◌≡◌, ◌↔◌, ◌<◌, ◌^◌, ℕ, Contains, IfOk, OnOk, [], length};
+ghost use Rattle.std.specs.Prelude.{◌≡◌, ◌↔◌, ◌<◌, ◌^◌, Contains, IfOk, OnOk, [], length};
 ghost use Rattle.dist_repo.specs.Offers.{AreInVersionOrder, IsOwnOffer};
 ghost use Rattle.dist_repo.specs.Order.{IsInOrder};
 ghost use Rattle.dist_repo.specs.OwnPrivate.{AreCounted, AreNumbersNamed, AreOwn};

@@ -1,5 +1,5 @@
 //! The packages of a file in order, and what can be asked of them without taking memory.
-ghost use Rattle.std.specs.Prelude.{◌≡◌, ◌<◌, ◌^◌, ◌↔◌, ℕ, List, [], Some, length, slice_get, slice_index_or, IsTrue, IfOk, MatchOption, OnOk};
+ghost use Rattle.std.specs.Prelude.{◌≡◌, ◌<◌, ◌^◌, ◌↔◌, ℕ, List, [], Some, length, slice_get, IsTrue, IfOk, OnOk};
 ghost use Rattle.std.specs.Option.{option_copied};
 ghost use Rattle.dist_asked.specs.AskedPlaces.{AreEnough};
 ghost use Rattle.dist_relation.specs.declared.atom.Atom.{Atom};
@@ -94,6 +94,14 @@ impl Repository {
         ensures in_order { IsInOrder self.now.packages }
     {
         self.packages.len() as u32
+    }
+
+    /// Packages are in order, and fewer than 32 bits can number. Does nothing.
+    pub fn keeps_invariant(&self)
+        ensures in_order { IsInOrder self.now.packages }
+        ensures few { length self.now.packages < 2 ^ 32 }
+    {
+        self.len();
     }
 
     /// The package of a number.

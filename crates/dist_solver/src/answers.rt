@@ -4,7 +4,7 @@ ghost use Rattle.std.specs.Prelude.{◌≡◌};
 
 use dist_clause::Assignment;
 use dist_derive::AppendError;
-use std::alloc::{AllocError, AllocFailed};
+use std::alloc::AllocError;
 use std::marker::Model;
 
 /// Numbers of clauses, by which a clause follows.

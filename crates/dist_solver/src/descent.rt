@@ -1,8 +1,8 @@
 //! A plain descent: decisions are taken one after another until a model, a refutation or a conflict comes, each from
 //! propagation over all clauses. It stands behind the guesses.
 
-ghost use Rattle.std.specs.Prelude.{◌≡◌, ◌<◌, ◌≤◌, ◌↔◌, ℕ, List, length, map, reverse, All, Contains, IfOk, IfSome, IfNone, MatchOption};
-ghost use Rattle.dist_clause.specs.Formula.{literal, negation, IsClauseOver, Literal};
+ghost use Rattle.std.specs.Prelude.{◌≡◌, ◌<◌, ◌≤◌, ◌↔◌, ℕ, List, length, map, reverse, All, Contains, IfOk, MatchOption};
+ghost use Rattle.dist_clause.specs.Formula.{negation, IsClauseOver, Literal};
 ghost use Rattle.dist_derive.specs.ClauseLog.{ClauseLog, inputs_of};
 ghost use Rattle.dist_derive.specs.ContainmentPrivate.{ContainsAll};
 ghost use Rattle.dist_derive.specs.SweepPrivate.{AllOpen};
@@ -131,7 +131,7 @@ fn decide(
     what_settles_a_clause();
     cone_is_closed();
     cone_models_extend();
-    let _clauses = log.len();
+    log.keeps_invariant();
     match trail.next_decision(cone) {
         Some(decision) => {
             start.push(decision)?;

@@ -36,7 +36,7 @@ impl Trail {
         ensures same_variables { self.new.variables ≡ self.old.variables }
     {
         unit_steps_are_hints();
-        let _clauses = log.len();
+        log.keeps_invariant();
         self.restart(start);
         match self.propagate(log)? {
             Some(number) => Ok(Some(self.hints(alloc, number)?)),

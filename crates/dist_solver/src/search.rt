@@ -248,7 +248,7 @@ fn search(
 {
     new_lines_are_few();
     more_clauses_keep_what_follows();
-    let _clauses = log.len();
+    log.keeps_invariant();
     for _ in 0..limit {
         match next_end(alloc, log, guesses, trail, cone, assumptions)? {
             Descent::Model(values) => return Ok(Answer::Found(values)),

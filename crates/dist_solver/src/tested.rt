@@ -1,6 +1,6 @@
 //! Guesses at an answer, each tested before it leaves: nothing is believed of the search that made it.
 
-ghost use Rattle.std.specs.Prelude.{◌≡◌, ◌≤◌, ◌↔◌, IfOk, IfSome, IsTrue, List, length, map, All, Bool, Contains, ℕ};
+ghost use Rattle.std.specs.Prelude.{◌≡◌, ◌↔◌, IfOk, IfSome, IsTrue, List, length, map, All, Bool, Contains, ℕ};
 ghost use Rattle.dist_clause.specs.Formula.{Literal, IsClauseOver, negation, value_of, IsTrueLiteral};
 ghost use Rattle.dist_derive.specs.ClauseLog.{ClauseLog, inputs_of};
 ghost use Rattle.dist_derive.specs.Cone.{InCone};
@@ -190,6 +190,6 @@ fn is_clause(set: &mut VariableSet, variables: u32, clause: &[Lit]) -> bool
             return false;
         }
     }
-    let _each_once = set.members();
+    set.keeps_invariant();
     true
 }

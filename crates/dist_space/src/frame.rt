@@ -1,10 +1,10 @@
 //! The clusters, classes and new names of a repository.
-ghost use Rattle.std.specs.Prelude.{◌≡◌, ◌≤◌, ◌<◌, ◌↔◌, ◌^◌, ℕ, [], All, Any, Contains, IfOk, IsTrue, Some, OnOk, length, slice_get, slice_index, slice_index_or};
+ghost use Rattle.std.specs.Prelude.{◌≡◌, ◌<◌, ◌↔◌, ◌^◌, ℕ, [], All, Any, Contains, IfOk, IsTrue, Some, OnOk, length, slice_get};
 ghost use Rattle.dist_cluster.specs.Partition.{IsIn};
 ghost use Rattle.dist_repo.specs.Match.{IsUsable};
 ghost use Rattle.dist_repo.specs.Order.{IsFlat};
 ghost use Rattle.dist_repo.specs.Size.{IsWithinSize};
-ghost use Rattle.dist_classes.specs.Answers.{AreClassesOf, AreClassesOfName, AreClustersOf};
+ghost use Rattle.dist_classes.specs.Answers.{AreClustersOf};
 ghost use Rattle.dist_classes.specs.NewNames.{AreNewNames};
 ghost use Rattle.dist_space.specs.Kept.{AreClassesBeside, AreNameClassesBeside, IsFrameOf};
 ghost use Rattle.dist_space.specs.Space.{cluster_classes, fresh_classes};

@@ -141,8 +141,7 @@ impl Space {
         ensures stated { result ≤ MAX_VARIABLES }
         ensures back { slice_get self.now.meanings (result - 1) ≡ Some meaning.now }
     {
-        // What this call tells is that variables stand in their order, and how many there may be.
-        let _variables = self.variables();
+        self.keeps_invariant();
         self.place(meaning) + 1
     }
 

@@ -1,6 +1,6 @@
 //! The space of the futures of a repository.
 ghost use Rattle.std.specs.Prelude.{◌≡◌, ◌≤◌, ◌<◌, ◌-◌, ◌^◌, ◌↔◌, ℕ, [], Contains, IfErr, IfOk, Some, length, slice_get, slice_index};
-ghost use Rattle.dist_base.specs.declared.TheConstants.{MAX_VARIABLES};
+ghost use Rattle.dist_base.specs.declared.TheConstants.{MAX_PACKAGES, MAX_VARIABLES};
 ghost use Rattle.dist_base.specs.Answers.{IsExactly};
 ghost use Rattle.dist_repo.specs.Order.{IsFlat};
 ghost use Rattle.dist_repo.specs.Size.{IsWithinSize};
@@ -198,6 +198,19 @@ impl Space {
         self.meanings.len() as u32
     }
 
+    /// It is a space. It has at most as many variables and packages as may be, and fewer clusters than 32 bits can number.
+    /// Does nothing.
+    pub fn keeps_invariant(&self)
+        ensures space { IsSpace self.now }
+        ensures variables { length self.now.meanings ≤ MAX_VARIABLES }
+        ensures packages { length self.now.repository.packages ≤ MAX_PACKAGES }
+        ensures clusters { length self.now.clusters.members < 2 ^ 32 }
+    {
+        self.variables();
+        self.repo();
+        self.clusters().len();
+    }
+
     /// What a variable means; the first one has the number 1.
     pub fn meaning(&self, variable: u32) -> Meaning
         requires from_one { 1 ≤ variable }
@@ -218,6 +231,13 @@ impl Space {
             Some(classes) => classes.len(),
             None => 0,
         }
+    }
+
+    /// A cluster has fewer classes than 32 bits can number. Does nothing.
+    pub fn classes_are_few(&self, cluster: u32)
+        ensures { length (cluster_classes self.now cluster) < 2 ^ 32 }
+    {
+        self.class_count(cluster);
     }
 
     /// How many classes a new name has. There are none of a number past the last name.

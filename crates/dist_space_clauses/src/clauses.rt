@@ -163,8 +163,7 @@ fn made_clauses(
     drop(scratch);
     match pushed {
         Ok(ends) => {
-            // What this call tells is that the set is within its limits.
-            let _count = set.len();
+            set.keeps_invariant();
             Ok((set, ends))
         }
         Err(error) => {
@@ -188,8 +187,7 @@ pub fn clauses_with_ends(
     ensures too_many_clauses { IsExactly NoMemory result TooManyClauses (PassesClauses space.now clauses literals) }
     ensures too_many_literals { IsExactly NoMemory result TooManyLiterals (PassesLiterals space.now clauses literals) }
 {
-    // What this call tells is that it is a space.
-    let _variables = space.variables();
+    space.keeps_invariant();
     made_clauses(alloc, space, clauses, literals)
 }
 
@@ -206,8 +204,7 @@ pub fn clauses_of(
     ensures too_many_clauses { IsExactly NoMemory result TooManyClauses (PassesClauses space.now clauses literals) }
     ensures too_many_literals { IsExactly NoMemory result TooManyLiterals (PassesLiterals space.now clauses literals) }
 {
-    // What this call tells is that it is a space.
-    let _variables = space.variables();
+    space.keeps_invariant();
     let (set, _ends) = made_clauses(alloc, space, clauses, literals)?;
     Ok(set)
 }

@@ -17,7 +17,7 @@ use crate::movers::Movers;
 use dist_asked::AskedPlaces;
 use dist_clause::{ClauseSet, Lit, PushError};
 use dist_now::Partners;
-use dist_relation::{Atom, Name};
+use dist_relation::Atom;
 use dist_repo::Package;
 use dist_space::{Meaning, Space};
 use std::alloc::AllocError;
@@ -250,8 +250,7 @@ fn push_pairs(
     ensures err { IfErr result (IsCauseAt space.now set.old) }
 {
     let variable = space.variable(&Meaning::Present(number));
-    // What this call tells is that variables are those of a space.
-    let _variables = space.variables();
+    space.keeps_invariant();
     for other in others {
         add_pair(set, Lit::new(variable, false), Lit::new(*other, false))?;
     }

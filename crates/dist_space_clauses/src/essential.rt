@@ -26,8 +26,7 @@ fn gather_bearers(
         add_variable(space, Meaning::New(number, class), variables)?;
     }
     put_in_order(variables);
-    // What this call tells is that the repository is flat.
-    let _variables = space.variables();
+    space.keeps_invariant();
     Ok(())
 }
 
@@ -45,9 +44,8 @@ fn push_name(
     ensures ok { OnOk result (IsNamedFront space.now (number + 1) set.old set.new) }
     ensures err { IfErr result (IsCauseAt space.now set.old) }
 {
-    // What these calls tell is that variables are those of a space, and that packages are in order.
-    let _variables = space.variables();
-    let _packages = space.repo().len();
+    space.keeps_invariant();
+    space.repo().keeps_invariant();
     if !package.essential {
         return Ok(());
     }
@@ -72,8 +70,7 @@ pub(crate) fn push_names(
     ensures ok { OnOk result (IsWholeSet space.now set.old set.new) }
     ensures err { IfErr result (IsCauseAt space.now set.old) }
 {
-    // What this call tells is that variables are those of a space.
-    let _variables = space.variables();
+    space.keeps_invariant();
     for number in 0..space.package_count() {
         push_name(space, number, space.package(number), scratch, set)?;
     }

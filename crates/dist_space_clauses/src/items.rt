@@ -175,8 +175,7 @@ fn push_item<'a>(
     ensures ok { OnOk result (IsFront space.now 4 (variable_of space.now (meaning.Present number)) (place + 1) set.old set.new) }
     ensures err { IfErr result (IsCauseAt space.now set.old) }
 {
-    // What this call tells is that variables are those of a space.
-    let _variables = space.variables();
+    space.keeps_invariant();
     let asked = space.repo().asked_alternatives(number, place);
     let variables = &mut scratch.variables;
     if let Err(AllocError) = gather_meeting(space, alternatives, asked, movers, variables) {
@@ -218,8 +217,7 @@ fn push_items<'a>(
             set,
         )?;
     }
-    // What this call tells is that variables are those of a space.
-    let _variables = space.variables();
+    space.keeps_invariant();
     Ok(())
 }
 

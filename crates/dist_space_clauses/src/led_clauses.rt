@@ -1,5 +1,5 @@
 //! The clauses of two literals that one variable leads: those of clusters, of new versions, of new names and of today.
-ghost use Rattle.std.specs.Prelude.{◌≡◌, ◌+◌, ◌≤◌, ◌<◌, IfErr, OnOk, length, slice_index};
+ghost use Rattle.std.specs.Prelude.{◌+◌, ◌≤◌, ◌<◌, IfErr, OnOk, length};
 ghost use Rattle.dist_space_clauses.specs.GatheringPrivate.{IsCauseAt, IsFront};
 ghost use Rattle.dist_space_clauses.specs.GroupsPrivate.{class_of, classes_of, group_for};
 ghost use Rattle.dist_space.specs.Space.{IsChange, IsMeaningOf};

@@ -1,7 +1,7 @@
 -- The order of an extended part, and of tildes, without the texts.
 use Rattle.std.proofs.Common.{◌≡◌, ◌≢◌, ℕ, zero, suc, ◌+◌, ◌-◌, ◌<◌, ◌≤◌, List, [], ◌∷◌, ◌++◌, length, map, drop, ℤ, pos, negsuc, Ordering, Less, Equal}
 use Rattle.std.proofs.Common.{Greater}
-use Rattle.std.proofs.Common.{int_cmp, nat_cmp, true, false, None, refl, sym, ap, ap₂, ◌∙◌, subst, ◌⊎◌, inl, inr, arith, length-append}
+use Rattle.std.proofs.Common.{int_cmp, nat_cmp, true, None, refl, sym, ap, ap₂, ◌∙◌, subst, ◌⊎◌, inl, inr, arith, length-append}
 use Rattle.std.specs.Prelude.{codes, replicate}
 use Rattle.std.specs.Char.{is_ascii_digit}
 use Rattle.std.specs.Ordering.{ordering_then, is_ne}
@@ -14,10 +14,9 @@ use Rattle.dist_version.specs.Faults.{fault_of}
 use Rattle.dist_version.specs.Order.{after_turn, number_of, part_cmp, text_start, version_cmp, weight_at, weight_of, weights_cmp, weights_of}
 use Rattle.dist_version.specs.OrderLaws.{version_cmp-parts}
 use Rattle.dist_version.specs.Spelling.{Parts, after_epoch, epoch_digits, epoch_of, revision_of, upstream_of}
-use Rattle.dist_version.proofs.Density.{ExtendedTurn, Turned, above_parts_are, alone, below_parts_are, extended, extended_turn, letter_and, letter_turn}
+use Rattle.dist_version.proofs.Density.{Turned, above_parts_are, alone, below_parts_are, extended, extended_turn, letter_and, letter_turn}
 use Rattle.dist_version.proofs.Density.{text_start-cons, tildes-all, other_byte}
-use Rattle.dist_version.proofs.InStep.{some_text}
-use Rattle.dist_version.proofs.Then.{then_go_on, then_stop}
+use Rattle.dist_version.proofs.Then.{then_stop}
 use Rattle.dist_version.proofs.Turns.{after_turn-shorter_by_one, part_cmp-by_turns, part_cmp-turn, text_weights, weight_nonzero, weights_cmp-drop}
 use Rattle.dist_version.proofs.Turns.{weights_of-empty, weights_of-turn}
 

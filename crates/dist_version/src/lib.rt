@@ -9,7 +9,7 @@
 ghost use Rattle.std.specs.Prelude.{◌≡◌, ◌↔◌, ℕ, List, [], None, IfOk, IsTrue, bytes_eq};
 ghost use Rattle.std.specs.Option.{option_copied, unwrap_or};
 ghost use Rattle.dist_base.specs.Answers.{Answers};
-ghost use Rattle.dist_version.specs.Spelling.{Spells, ReadsVersion, parts_of, epoch_of, upstream_of, revision_of};
+ghost use Rattle.dist_version.specs.Spelling.{IsVersion, Spells, ReadsVersion, parts_of, epoch_of, upstream_of, revision_of};
 ghost use Rattle.dist_version.specs.Faults.{fault_of, IsTextFault};
 ghost use Rattle.dist_version.specs.Order.{version_cmp, weights_of};
 ghost use Rattle.dist_version.specs.Kept.{Keeps, KeepsText, text_of};
@@ -99,6 +99,13 @@ impl Version {
         ensures spelled { Spells self.now (parts_of self.now) }
     {
         self.text.as_slice()
+    }
+
+    /// The text is a version's. Does nothing.
+    pub fn keeps_invariant(&self)
+        ensures { IsVersion self.now }
+    {
+        self.text();
     }
 
     /// The epoch, which is 0 where the text has none.

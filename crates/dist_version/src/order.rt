@@ -6,7 +6,6 @@ ghost use Rattle.std.specs.List.{list_all, prefix_len, suffix_len};
 ghost use Rattle.std.specs.Ordering.{int_cmp, nat_cmp, ordering_then};
 ghost use Rattle.std.specs.Str.Parse.{digits_value};
 ghost use Rattle.dist_base.specs.Ascii.{digit_zero};
-ghost use Rattle.dist_version.specs.Between.{ends_in_digit};
 ghost use Rattle.dist_version.specs.Order.{weight_of, weight_at, text_start, digit_start, after_text, after_turn, number_of, weights_cmp, part_cmp};
 
 use std::cmp::Ordering;

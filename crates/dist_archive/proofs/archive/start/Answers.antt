@@ -9,7 +9,7 @@ use Rattle.dist_archive.proofs.archive.start.Goals as goal
 pub invariant_of-result : goal.invariant_of-result
 invariant_of-result c =
     record {
-      kept = kept-first c.args.space c.in_ok-slots.slots c.new-4.result c.variables-variables.ensures.space (omega arith)
+      kept = kept-first c.args.space c.in_ok-slots.slots c.new-4.result c.keeps_invariant.ensures.space (omega (arith, c.keeps_invariant.ensures.packages))
           (c.in_ok-slots.ensures ∙ ap (λ n. replicate n Kept) c.package_count.ensures) c.new-4.ensures;
       left = left-first c.args.space.clusters.members c.in_ok-slots.slots c.in_ok-held.held
           (c.in_ok-held.ensures ∙ ap (λ n. replicate n Every) (c.len.ensures ∙ ap (λ (l : ClusterList). length l.members) c.clusters.ensures));

@@ -6,7 +6,7 @@ use Rattle.dist_archive.proofs.fitting.check.Goals as goal
 
 pub loop-place-init : goal.loop-place-init
 loop-place-init c =
-    checked-none c.args.space.now c.variables-variables.ensures.space.frame c.args.later.now.packages c.in_ok-founds.founds.items c.len.result
+    checked-none c.args.space.now c.keeps_invariant.ensures.space.frame c.args.later.now.packages c.in_ok-founds.founds.items c.len.result
     c.in_ok-founds.ensures (c.len.ensures ∙ ap (λ (l : ClusterList). length l.members) c.clusters.ensures)
 
 pub returns : goal.returns

@@ -11,13 +11,13 @@ package-requires c = slice_get_within c.args.space.now.repository.packages c.arg
 
 pub is_later-requires : goal.is_later-requires
 is_later-requires c =
-    named-at c.args.space.now c.variables-variables.ensures.space.frame c.args.later.now.packages c.args.place c.args.number c.requires.alike
+    named-at c.args.space.now c.keeps_invariant.ensures.space.frame c.args.later.now.packages c.args.place c.args.number c.requires.alike
     c.package-fresh.result.now c.package-fresh.ensures
 
 pub returns-then-same : goal.returns-then-same
 returns-then-same c =
     let s = c.args.space.now in
-    let frame = c.variables-variables.ensures.space.frame in
+    let frame = c.keeps_invariant.ensures.space.frame in
     let test = same-test s frame c.args.later.now.packages c.args.place c.args.number c.requires.alike c.same.result c.package-fresh.result.now
     c.package.result.now c.package-fresh.ensures c.package.ensures.value c.same.ensures in
     first-kept s frame c.args.later.now.packages c.args.place c.args.number c.requires.alike c.requires.holds (test.0 c.if-same.true)
@@ -25,7 +25,7 @@ returns-then-same c =
 pub returns-then-is_later : goal.returns-then-is_later
 returns-then-is_later c =
     let s = c.args.space.now in
-    let frame = c.variables-variables.ensures.space.frame in
+    let frame = c.keeps_invariant.ensures.space.frame in
     let test = later-test s frame c.args.later.now.packages c.args.place c.args.number c.requires.alike c.is_later.result c.package-fresh.result.now
     c.package-fresh.ensures c.is_later.ensures in
     first-later s frame c.args.later.now.packages c.args.place c.args.number c.requires.alike c.requires.holds (test.0 c.if-is_later.true)
@@ -33,7 +33,7 @@ returns-then-is_later c =
 pub returns : goal.returns
 returns c =
     let s = c.args.space.now in
-    let frame = c.variables-variables.ensures.space.frame in
+    let frame = c.keeps_invariant.ensures.space.frame in
     let same = same-test s frame c.args.later.now.packages c.args.place c.args.number c.requires.alike c.same.result c.package-fresh.result.now
     c.package.result.now c.package-fresh.ensures c.package.ensures.value c.same.ensures in
     let new = later-test s frame c.args.later.now.packages c.args.place c.args.number c.requires.alike c.is_later.result c.package-fresh.result.now

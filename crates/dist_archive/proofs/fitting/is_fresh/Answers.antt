@@ -27,7 +27,7 @@ returns c =
       (λ yes. (
         record {
           name = refl;
-          version = (_, c.text-text.ensures.spelled);
+          version = c.keeps_invariant.ensures;
           provides = no-elements c.args.fresh.now.provides (omega (arith, c.len.ensures));
         },
         unprovided,

@@ -16,7 +16,7 @@ pub is_above_top-requires : goal.is_above_top-requires
 is_above_top-requires c =
     let s = c.args.space.now in
     subst (λ (k : ℕ). k < length s.clusters.members) (sym c.cluster_of.ensures)
-    (number-within s c.variables-variables.ensures.space.frame c.args.number c.package.result.now c.package.ensures.value)
+    (number-within s c.keeps_invariant.ensures.space.frame c.args.number c.package.result.now c.package.ensures.value)
 
 pub returns-then-not-is_new_of : goal.returns-then-not-is_new_of
 returns-then-not-is_new_of c =
@@ -25,14 +25,14 @@ returns-then-not-is_new_of c =
     let named = has-at (λ (x : Package). x.name ≡ c.args.fresh.now.name) s.repository.packages c.args.number q c.package.ensures.value c.requires in (
       (λ no. absurd (false≢true no)),
       λ later. absurd (not-so c.is_new_of.result c.is_new_of.ensures c.if-not-is_new_of.true
-          (later-of s.repository c.variables-variables.ensures.space.frame.flat q c.args.fresh.now
+          (later-of s.repository c.keeps_invariant.ensures.space.frame.flat q c.args.fresh.now
           (contains-at s.repository.packages c.args.number q c.package.ensures.value) (sym named) later).0),
     )
 
 pub returns : goal.returns
 returns c =
     let s = c.args.space.now in
-    let frame = c.variables-variables.ensures.space.frame in
+    let frame = c.keeps_invariant.ensures.space.frame in
     let q : Package = c.package.result.now in
     let there = contains-at s.repository.packages c.args.number q c.package.ensures.value in
     let named = has-at (λ (x : Package). x.name ≡ c.args.fresh.now.name) s.repository.packages c.args.number q c.package.ensures.value c.requires in

@@ -12,7 +12,7 @@ package-requires-2 c = slice_get_within c.args.space.now.repository.packages c.a
 pub returns-then-not-same : goal.returns-then-not-same
 returns-then-not-same c =
     let s = c.args.space.now in
-    let frame = c.variables-variables.ensures.space.frame in
+    let frame = c.keeps_invariant.ensures.space.frame in
     let test = same-test s frame c.args.later.now.packages c.args.place c.args.number c.requires.alike c.same.result c.package.result.now
     c.package-2.result.now c.package.ensures c.package-2.ensures.value c.same.ensures in
     kept-none s frame c.args.later.now.packages c.args.place c.args.number c.requires.alike c.requires.holds
@@ -21,7 +21,7 @@ returns-then-not-same c =
 pub returns : goal.returns
 returns c =
     let s = c.args.space.now in
-    let frame = c.variables-variables.ensures.space.frame in
+    let frame = c.keeps_invariant.ensures.space.frame in
     let test = same-test s frame c.args.later.now.packages c.args.place c.args.number c.requires.alike c.same.result c.package.result.now
     c.package-2.result.now c.package.ensures c.package-2.ensures.value c.same.ensures in
     more-kept s frame c.args.later.now.packages c.args.place c.args.number c.requires.alike c.requires.fits c.requires.holds

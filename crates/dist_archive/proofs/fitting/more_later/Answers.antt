@@ -12,7 +12,7 @@ package-requires c = slice_get_within c.args.later.now.packages c.args.place c.r
 
 pub is_later-requires : goal.is_later-requires
 is_later-requires c =
-    named-at c.args.space.now c.variables-variables.ensures.space.frame c.args.later.now.packages c.args.place c.args.number c.requires.alike
+    named-at c.args.space.now c.keeps_invariant.ensures.space.frame c.args.later.now.packages c.args.place c.args.number c.requires.alike
     c.package.result.now c.package.ensures
 
 pub are_level-requires-clause-within : goal.are_level-requires-clause-within
@@ -27,7 +27,7 @@ are_level-requires-clause-first_within c =
 pub returns-then-not-is_later : goal.returns-then-not-is_later
 returns-then-not-is_later c =
     let s = c.args.space.now in
-    let frame = c.variables-variables.ensures.space.frame in
+    let frame = c.keeps_invariant.ensures.space.frame in
     let test = later-test s frame c.args.later.now.packages c.args.place c.args.number c.requires.alike c.is_later.result c.package.result.now
     c.package.ensures c.is_later.ensures in
     later-none s frame c.args.later.now.packages c.args.place c.args.number c.requires.alike c.args.first c.requires.holds
@@ -36,14 +36,14 @@ returns-then-not-is_later c =
 pub returns-then-not-are_level : goal.returns-then-not-are_level
 returns-then-not-are_level c =
     let s = c.args.space.now in
-    let frame = c.variables-variables.ensures.space.frame in
+    let frame = c.keeps_invariant.ensures.space.frame in
     later-none s frame c.args.later.now.packages c.args.place c.args.number c.requires.alike c.args.first c.requires.holds
     (λ new m at level. not-so c.are_level.result (c.are_level.ensures c.requires.alike.fresh m c.requires.alike.is_fresh at) c.if-not-are_level.true level)
 
 pub returns : goal.returns
 returns c =
     let s = c.args.space.now in
-    let frame = c.variables-variables.ensures.space.frame in
+    let frame = c.keeps_invariant.ensures.space.frame in
     let test = later-test s frame c.args.later.now.packages c.args.place c.args.number c.requires.alike c.is_later.result c.package.result.now
     c.package.ensures c.is_later.ensures in
     more-later s frame c.args.later.now.packages c.args.place c.args.number c.requires.alike c.requires.fits c.args.first c.requires.holds

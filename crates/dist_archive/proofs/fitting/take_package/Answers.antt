@@ -28,7 +28,7 @@ returns-in-None-clause-fits c =
     let test = subst (λ (r : PackageList). IsTrue c.is_fresh.result ↔ (IsOfNewName n.name n × (¬ IsProvided r n.name))) c.repo-repo.ensures.value
     c.is_fresh.ensures in
     on-true c.is_fresh.result (AreChecked s c.args.later.now.packages (c.args.place + 1) c.args.founds.now.items)
-    (λ yes. checked-fresh s c.variables-variables.ensures.space.frame c.args.later.now.packages c.args.place c.args.founds.now.items
+    (λ yes. checked-fresh s c.keeps_invariant.ensures.space.frame c.args.later.now.packages c.args.place c.args.founds.now.items
     c.requires.checked n c.package-candidate.ensures free (test.0 yes))
 
 pub returns-in-None-clause-misfit : goal.returns-in-None-clause-misfit
@@ -40,5 +40,5 @@ returns-in-None-clause-misfit c =
     let test = subst (λ (r : PackageList). IsTrue c.is_fresh.result ↔ (IsOfNewName n.name n × (¬ IsProvided r n.name))) c.repo-repo.ensures.value
     c.is_fresh.ensures in
     on-false c.is_fresh.result (IsFirstMisfit s.repository c.args.later.now.packages c.args.place)
-    (λ no. fresh-misfit s c.variables-variables.ensures.space.frame c.args.later.now.packages c.args.place c.args.founds.now.items
+    (λ no. fresh-misfit s c.keeps_invariant.ensures.space.frame c.args.later.now.packages c.args.place c.args.founds.now.items
     c.requires.checked n c.package-candidate.ensures free (not-so c.is_fresh.result test no))

@@ -19,7 +19,7 @@ loop-member-init c = record {
 pub put_named-requires-clause-few : goal.put_named-requires-clause-few
 put_named-requires-clause-few c =
     let few = places-few c.args.space.now.repository c.args.members.now c.loop-member.member-index c.requires.members (omega arith) in
-    omega (arith, few, c.loop-member.invariant.few, c.package_count-count.ensures)
+    omega (arith, few, c.loop-member.invariant.few, c.keeps_invariant.ensures.packages)
 
 pub loop-member-preserved : goal.loop-member-preserved
 loop-member-preserved c = record {

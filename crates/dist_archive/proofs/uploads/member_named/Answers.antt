@@ -21,7 +21,7 @@ cluster_of-requires c =
     let at = here-at (λ (p : Package). p.name ≡ c.args.name.now) s.repository.packages c.in_ok-number.number named in
     let within = slice_get_within s.repository.packages c.in_ok-number.number at.element at.is in
     subst (λ (l : ClusterList). Any (λ cluster. Contains cluster c.in_ok-number.number) l.members) (sym c.clusters.ensures)
-    (c.variables-variables.ensures.space.frame.clusters.partition.every c.in_ok-number.number
+    (c.keeps_invariant.ensures.space.frame.clusters.partition.every c.in_ok-number.number
     (omega (arith, within, length-map s.repository.packages member_of)))
 
 pub returns-then-cluster_of-cluster-clause-member : goal.returns-then-cluster_of-cluster-clause-member
@@ -30,7 +30,7 @@ returns-then-cluster_of-cluster-clause-member c =
     let named = subst (λ (r : PackageList). IsPackageAnd r.packages c.in_ok-number.number (λ p. p.name ≡ c.args.name.now)) c.repo.ensures.value
     c.in_ok-number.ensures in
     let at = here-at (λ (p : Package). p.name ≡ c.args.name.now) s.repository.packages c.in_ok-number.number named in
-    let frame = c.variables-variables.ensures.space.frame in
+    let frame = c.keeps_invariant.ensures.space.frame in
     let placed : IsIn s.clusters.members c.args.cluster c.in_ok-number.number → c.args.cluster ≡ c.cluster_of.result =
     subst (λ (l : ClusterList). IsIn l.members c.args.cluster c.in_ok-number.number → c.args.cluster ≡ c.cluster_of.result) c.clusters.ensures
     (c.cluster_of.ensures c.args.cluster).0 in
@@ -46,7 +46,7 @@ returns-clause-member c =
     let named = subst (λ (r : PackageList). IsPackageAnd r.packages c.in_ok-number.number (λ p. p.name ≡ c.args.name.now)) c.repo.ensures.value
     c.in_ok-number.ensures in
     let at = here-at (λ (p : Package). p.name ≡ c.args.name.now) s.repository.packages c.in_ok-number.number named in
-    let frame = c.variables-variables.ensures.space.frame in
+    let frame = c.keeps_invariant.ensures.space.frame in
     let placed : IsIn s.clusters.members c.args.cluster c.in_ok-number.number =
     subst (λ (l : ClusterList). IsIn l.members c.args.cluster c.in_ok-number.number) c.clusters.ensures
     ((c.cluster_of.ensures c.args.cluster).1 (sym c.if-cluster_of-cluster.false)) in

@@ -11,7 +11,7 @@ returns-in-Point c =
       between = c.versions_are_dense.ensures.between;
       below = c.versions_are_dense.ensures.below;
     } in
-    subst HasExample (sym c.in-Point.is) (has-example dense (Point c.in-Point.version) c.is_version.ensures tt)
+    subst HasExample (sym c.in-Point.is) (has-example dense (Point c.in-Point.version) c.keeps_invariant.ensures tt)
 
 pub returns-in-Between : goal.returns-in-Between
 returns-in-Between c =
@@ -20,7 +20,7 @@ returns-in-Between c =
       between = c.versions_are_dense.ensures.between;
       below = c.versions_are_dense.ensures.below;
     } in
-    subst HasExample (sym c.in-Between.is) (has-example dense (Between c.in-Between.low c.in-Between.field-1) c.is_version-in-Between.ensures
+    subst HasExample (sym c.in-Between.is) (has-example dense (Between c.in-Between.low c.in-Between.field-1) c.keeps_invariant-in-Between.ensures
     (subst HasVersions c.in-Between.is c.requires))
 
 pub returns-in-Above : goal.returns-in-Above
@@ -30,7 +30,7 @@ returns-in-Above c =
       between = c.versions_are_dense.ensures.between;
       below = c.versions_are_dense.ensures.below;
     } in
-    subst HasExample (sym c.in-Above.is) (has-example dense (Above c.in-Above.low) c.is_version-in-Above.ensures tt)
+    subst HasExample (sym c.in-Above.is) (has-example dense (Above c.in-Above.low) c.keeps_invariant-in-Above.ensures tt)
 
 pub returns-in-Below : goal.returns-in-Below
 returns-in-Below c =

@@ -17,7 +17,7 @@ moved_found-moved-requires-clause-providers c =
     (subst (λ (r : PackageList). AreProviders r c.bytes.result.now numbers) c.repo-repo.ensures.value c.providers-providers.ensures)
 
 pub returns-in-Some : goal.returns-in-Some
-returns-in-Some c = any-present c.args.space.now c.args.members.now c.args.atom.now c.args.but c.in-Some.variable c.variables-variables.ensures.space
+returns-in-Some c = any-present c.args.space.now c.args.members.now c.args.atom.now c.args.but c.in-Some.variable c.keeps_invariant.ensures.space
     (subst (λ (r : PackageList). IsUsable r.architecture c.args.atom.now.qualifier) c.repo-repo.ensures.value (c.if-not-usable.ensures.0 refl))
     c.in-Some.ensures
 

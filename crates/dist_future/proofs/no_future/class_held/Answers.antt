@@ -8,7 +8,7 @@ use Rattle.dist_future.proofs.no_future.class_held.Goals as goal
 pub returns-then-value : goal.returns-then-value
 returns-then-value c =
     held-least c.args.space.now c.args.members.now (At c.args.cluster) c.args.start c.loop-class.class c.variable-variable.result
-    (λ k l is also less. class-less c.args.space.now c.args.cluster k l c.variables-variables.ensures.space is also less) (omega arith)
+    (λ k l is also less. class-less c.args.space.now c.args.cluster k l c.keeps_invariant.ensures.space is also less) (omega arith)
     c.variable-variable.ensures.value
     (holds-from c.args.space.now c.args.members.now (At c.args.cluster c.loop-class.class) c.variable-variable.result c.value.result
     (omega (arith, c.requires.end, c.loop-class-test.true)) c.variable-variable.ensures.value c.value.ensures c.if-value.true) c.loop-class.invariant

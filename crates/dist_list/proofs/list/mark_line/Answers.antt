@@ -6,9 +6,7 @@ pub overflow_add-number : goal.overflow_add-number
 overflow_add-number c =
     let within = IsLine-within c.args.repository.now.packages c.args.line.now c.in_ok-read_line.field-0 c.in-Package.number c.in_ok-read_line.ensures
     c.in-Package.is in
-    let count = c.len.type_inv in
-    let counted = c.len.ensures.value in
-    omega (arith, within, count, counted)
+    omega (arith, within, c.keeps_invariant.ensures.few)
 
 pub set-requires-clause-in_range : goal.set-requires-clause-in_range
 set-requires-clause-in_range c =

@@ -16,5 +16,5 @@ returns-in-Some c =
       λ is. named-last c.args.repo.now c.args.number c.in-Some.before c.args.package.now c.package.result.now c.package.ensures last
           (c.eq.ensures.same.0 is),
       λ below. c.eq.ensures.same.1 (last-named c.args.repo.now c.args.number c.in-Some.before c.args.package.now c.package.result.now
-          c.len-end.ensures.in_order c.requires.number c.package.ensures last below),
+          c.keeps_invariant.ensures.in_order c.requires.number c.package.ensures last below),
     )

@@ -10,5 +10,5 @@ returns-clause-exact c =
     subst (λ (xs : List ℕ). Adds xs c.add_versions.new.numbers.items (IsVersion c.args.repo.now c.args.first c.package.result.now.name)) c.clear.ensures.items
     c.in_ok-add_versions.ensures in
     seconds-are c.args.repo.now c.args.first c.package.result.now c.args.pairs.now c.add_versions.new.numbers.items c.add_partners.new.numbers.items
-    c.put_in_order.new.numbers.items c.len-end.ensures.in_order c.package.ensures c.requires.exact
+    c.put_in_order.new.numbers.items c.keeps_invariant.ensures.in_order c.package.ensures c.requires.exact
     versions c.in_ok-end.ensures.adds c.put_in_order.ensures.same

@@ -34,8 +34,8 @@ returns-clause-ok c =
     subst (IsClauseFor c.args.repo.now (Required c.args.package.now.name)) (sym c.deref.ensures.value) c.in_default.ensures in
     pushed-ok c.push.result c.args.set.now c.push.new.self c.deref.result.now (IsNamedFront c.args.repo.now (c.args.number + 1) c.args.set.now)
     c.push.ensures.ok
-    (named-pushed c.args.repo.now c.args.number c.args.package.now c.args.set.now c.args.set.now c.deref.result.now c.len-end.ensures.in_order c.requires.number
-    c.if-not-package.false first c.requires.front is)
+    (named-pushed c.args.repo.now c.args.number c.args.package.now c.args.set.now c.args.set.now c.deref.result.now c.keeps_invariant.ensures.in_order
+    c.requires.number c.if-not-package.false first c.requires.front is)
 
 pub returns-clause-err : goal.returns-clause-err
 returns-clause-err c =
@@ -45,5 +45,5 @@ returns-clause-err c =
     pushed-err (present_demands c.args.repo.now) (IsDemand c.args.repo.now true) c.push.result c.args.set.now c.args.set.now (Required
     c.args.package.now.name) c.deref.result.now
     (named-before c.args.repo.now c.args.number c.args.package.now c.args.set.now.clause_limit c.args.set.now.literal_limit c.args.set.now
-    c.len-end.ensures.in_order c.requires.number first c.requires.front)
+    c.keeps_invariant.ensures.in_order c.requires.number first c.requires.front)
     (required-from c.args.repo.now.packages c.args.number c.args.package.now c.requires.number c.if-not-package.false) is c.push.ensures.cause

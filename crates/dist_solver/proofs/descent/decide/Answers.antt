@@ -41,7 +41,7 @@ returns-in_ok-values-in-None c =
     let cone = c.args.cone.now in
     let values = c.in_ok-values-in-None.values in
     let are = c.in_ok-values-in-None.ensures.values in
-    let over = All-take (IsClauseOver log.variables) log.inputs log.clauses c.len-clauses.ensures.within.over_variables in
+    let over = All-take (IsClauseOver log.variables) log.inputs log.clauses c.keeps_invariant.ensures.within.over_variables in
     let settled = All-take (λ clause. HasOutcome trues clause Open) log.inputs log.clauses c.requires.settled in
     record {
       variables = c.in_ok-values-in-None.ensures.length ∙ c.requires.trail;

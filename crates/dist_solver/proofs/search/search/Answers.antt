@@ -12,14 +12,14 @@ pub next_end-requires-clause-cone : goal.next_end-requires-clause-cone
 next_end-requires-clause-cone c =
     let old = c.args.log.now in
     let same = inputs_same old c.loop.log c.loop.derived c.args.assumptions.now c.loop.counter c.loop.invariant.adds
-    c.len-clauses.ensures.within.inputs_within in
+    c.keeps_invariant.ensures.inputs in
     subst (λ cs. (v : ℕ) → Contains c.args.cone.now.members v ↔ InCone cs c.args.assumptions.now v) (sym same) c.requires.cone
 
 pub returns-in-Model-clause-answer : goal.returns-in-Model-clause-answer
 returns-in-Model-clause-answer c =
     let model = subst (λ e. IsEnd c.loop.log c.args.assumptions.now e) c.in-Model.is c.in_ok-values.ensures.ends in
     model_of_old c.args.log.now c.loop.log c.loop.derived c.args.assumptions.now c.loop.counter c.loop.invariant.adds c.in-Model.values
-    c.len-clauses.ensures.within.inputs_within model
+    c.keeps_invariant.ensures.inputs model
 
 pub returns-in_err-values-clause-lines_follow : goal.returns-in_err-values-clause-lines_follow
 returns-in_err-values-clause-lines_follow c =

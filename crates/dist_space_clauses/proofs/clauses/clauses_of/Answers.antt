@@ -10,24 +10,24 @@ pub returns-in_err-set-clause-too_many_clauses : goal.returns-in_err-set-clause-
 returns-in_err-set-clause-too_many_clauses c =
     let s = c.args.space.now in
     let p = err_from_is_err_and c.from_residual.result c.from_residual.ensures.1 in
-    rw (p.1, p.2) (exactly-clauses (space_demands s) (orderly s) (IsDemand s) (compared s c.variables-variables.ensures.space) c.args.clauses c.args.literals
+    rw (p.1, p.2) (exactly-clauses (space_demands s) (orderly s) (IsDemand s) (compared s c.keeps_invariant.ensures.space) c.args.clauses c.args.literals
     (λ (set : ClauseList). set) (Err c.in_err-set.field-0.0) tt tt c.in_err-set.ensures.err)
 
 pub returns-in_err-set-clause-too_many_literals : goal.returns-in_err-set-clause-too_many_literals
 returns-in_err-set-clause-too_many_literals c =
     let s = c.args.space.now in
     let p = err_from_is_err_and c.from_residual.result c.from_residual.ensures.1 in
-    rw (p.1, p.2) (exactly-literals (space_demands s) (orderly s) (IsDemand s) (compared s c.variables-variables.ensures.space) c.args.clauses c.args.literals
+    rw (p.1, p.2) (exactly-literals (space_demands s) (orderly s) (IsDemand s) (compared s c.keeps_invariant.ensures.space) c.args.clauses c.args.literals
     (λ (set : ClauseList). set) (Err c.in_err-set.field-0.0) tt tt c.in_err-set.ensures.err)
 
 pub returns-clause-too_many_clauses : goal.returns-clause-too_many_clauses
 returns-clause-too_many_clauses c =
     let s = c.args.space.now in
-    exactly-clauses (space_demands s) (orderly s) (IsDemand s) (compared s c.variables-variables.ensures.space) c.args.clauses c.args.literals
+    exactly-clauses (space_demands s) (orderly s) (IsDemand s) (compared s c.keeps_invariant.ensures.space) c.args.clauses c.args.literals
     (λ (set : ClauseList). set) (Ok c.in_ok-set.set) c.in_ok-set.ensures.ok c.in_ok-set.ensures.within tt
 
 pub returns-clause-too_many_literals : goal.returns-clause-too_many_literals
 returns-clause-too_many_literals c =
     let s = c.args.space.now in
-    exactly-literals (space_demands s) (orderly s) (IsDemand s) (compared s c.variables-variables.ensures.space) c.args.clauses c.args.literals
+    exactly-literals (space_demands s) (orderly s) (IsDemand s) (compared s c.keeps_invariant.ensures.space) c.args.clauses c.args.literals
     (λ (set : ClauseList). set) (Ok c.in_ok-set.set) c.in_ok-set.ensures.ok c.in_ok-set.ensures.within tt

@@ -56,6 +56,6 @@ returns c =
     in-order s c.loop-class.variables.items c.put_in_order.new.variables.items Bearer Bearer (λ m is bearer. bearer)
     (gathers-weaker s [] c.loop-class.variables.items Bearer Bearer (λ m. (m ≡ Present n) ⊎ UpTo s (λ k x. x ≡ New n k) c.loop-class.class m) Bearer
     (λ m is bearer. bearer)
-    (λ m is bearer. bearer-cases s c.variables-variables.ensures.space n p c.loop-class.class m c.requires.package (omega (arith, e, c.loop-class-test.false))
+    (λ m is bearer. bearer-cases s c.keeps_invariant.ensures.space n p c.loop-class.class m c.requires.package (omega (arith, e, c.loop-class-test.false))
     is bearer) c.loop-class.invariant)
     c.put_in_order.ensures.rising c.put_in_order.ensures.same

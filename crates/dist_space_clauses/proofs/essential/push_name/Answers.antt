@@ -1,4 +1,4 @@
-use Rattle.std.proofs.Common.{◌≡◌, ℕ, ◌+◌, map, arith, sym, subst, ◌∙◌}
+use Rattle.std.proofs.Common.{◌≡◌, ℕ, ◌+◌, map, sym, subst, ◌∙◌}
 use Rattle.std.proofs.lemmas.Result.{IfErr-weaker, on_ok_weaker}
 use Rattle.dist_base.specs.declared.TheConstants.{MAX_VARIABLES}
 use Rattle.dist_clause.specs.ClauseList.{ClauseList}
@@ -14,24 +14,25 @@ use Rattle.dist_space_clauses.proofs.essential.push_name.Goals as goal
 
 pub returns-then-not-package-clause-ok : goal.returns-then-not-package-clause-ok
 returns-then-not-package-clause-ok c =
-    named-skipped c.args.space.now c.variables-variables.ensures.space c.args.set.now c.args.number c.args.package.now c.requires.package c.args.set.now
+    named-skipped c.args.space.now c.keeps_invariant.ensures.space c.args.set.now c.args.number c.args.package.now c.requires.package c.args.set.now
     c.if-not-package.true c.requires.front
 
 pub write_positive-requires : goal.write_positive-requires
 write_positive-requires c =
     let s = c.args.space.now in
-    let up = c.variables-variables.ensures in
-    in-limit s up.space (IsBearer s c.args.package.now.name) c.gather_bearers.new.variables.items MAX_VARIABLES (omega (arith, up.value, up.stated))
+    let up = c.keeps_invariant.ensures in
+    in-limit s up.space (IsBearer s c.args.package.now.name) c.gather_bearers.new.variables.items MAX_VARIABLES up.variables
     c.in_default.ensures
 
 pub push-requires : goal.push-requires
 push-requires c =
     let s = c.args.space.now in
-    let space = c.variables-variables.ensures.space in
+    let space = c.keeps_invariant.ensures.space in
     let p = c.args.package.now in
     let n = c.args.number in
     let vs = c.gather_bearers.new.variables.items in
-    let ordered : IsInOrder s.repository.packages = subst (λ (r : PackageList). IsInOrder r.packages) c.repo.ensures.value c.len-packages.ensures.in_order in
+    let ordered : IsInOrder s.repository.packages = subst (λ (r : PackageList). IsInOrder r.packages) c.repo.ensures.value
+    c.keeps_invariant-2.ensures.in_order in
     let written : c.deref.result.now ≡ map positive vs = c.deref.ensures.value ∙ c.in_default-write_positive.ensures in
     let is = name-clause s space p.name vs c.deref.result.now c.in_default.ensures written in
     subst (λ (k : ℕ). IsClauseOver k c.deref.result.now) (sym c.requires.front.variables)
@@ -40,11 +41,12 @@ push-requires c =
 pub returns-clause-ok : goal.returns-clause-ok
 returns-clause-ok c =
     let s = c.args.space.now in
-    let space = c.variables-variables.ensures.space in
+    let space = c.keeps_invariant.ensures.space in
     let p = c.args.package.now in
     let n = c.args.number in
     let vs = c.gather_bearers.new.variables.items in
-    let ordered : IsInOrder s.repository.packages = subst (λ (r : PackageList). IsInOrder r.packages) c.repo.ensures.value c.len-packages.ensures.in_order in
+    let ordered : IsInOrder s.repository.packages = subst (λ (r : PackageList). IsInOrder r.packages) c.repo.ensures.value
+    c.keeps_invariant-2.ensures.in_order in
     let written : c.deref.result.now ≡ map positive vs = c.deref.ensures.value ∙ c.in_default-write_positive.ensures in
     let is = name-clause s space p.name vs c.deref.result.now c.in_default.ensures written in
     on_ok_weaker c.push.result
@@ -56,11 +58,12 @@ returns-clause-ok c =
 pub returns-clause-err : goal.returns-clause-err
 returns-clause-err c =
     let s = c.args.space.now in
-    let space = c.variables-variables.ensures.space in
+    let space = c.keeps_invariant.ensures.space in
     let p = c.args.package.now in
     let n = c.args.number in
     let vs = c.gather_bearers.new.variables.items in
-    let ordered : IsInOrder s.repository.packages = subst (λ (r : PackageList). IsInOrder r.packages) c.repo.ensures.value c.len-packages.ensures.in_order in
+    let ordered : IsInOrder s.repository.packages = subst (λ (r : PackageList). IsInOrder r.packages) c.repo.ensures.value
+    c.keeps_invariant-2.ensures.in_order in
     let written : c.deref.result.now ≡ map positive vs = c.deref.ensures.value ∙ c.in_default-write_positive.ensures in
     let is = name-clause s space p.name vs c.deref.result.now c.in_default.ensures written in
     IfErr-weaker c.push.result _ _

@@ -6,7 +6,7 @@ use Rattle.dist_space_clauses.proofs.NameFronts.{NamedBefore, named-end, named-s
 use Rattle.dist_space_clauses.proofs.essential.push_names.Goals as goal
 
 pub loop-number-init : goal.loop-number-init
-loop-number-init c = named-start c.args.space.now c.variables-variables.ensures.space c.args.set.now c.args.set.now c.requires.front
+loop-number-init c = named-start c.args.space.now c.keeps_invariant.ensures.space c.args.set.now c.args.set.now c.requires.front
 
 pub push_name-requires-clause-front : goal.push_name-requires-clause-front
 push_name-requires-clause-front c =
@@ -31,5 +31,5 @@ loop-number-preserved c =
 
 pub returns-clause-ok : goal.returns-clause-ok
 returns-clause-ok c =
-    named-end c.args.space.now c.variables-variables.ensures.space c.args.set.now c.loop-number.number c.loop-number.set c.requires.essential
+    named-end c.args.space.now c.keeps_invariant.ensures.space c.args.set.now c.loop-number.number c.loop-number.set c.requires.essential
     (let e = c.package_count-number-end.ensures in omega (arith, e, c.loop-number-test.false)) c.loop-number.invariant

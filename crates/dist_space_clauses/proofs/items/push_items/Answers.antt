@@ -37,6 +37,6 @@ pub returns-clause-ok : goal.returns-clause-ok
 returns-clause-ok c =
     let s = c.args.space.now in
     let is_meaning = slice_get_within s.repository.packages c.args.number c.args.package.now c.requires.package in
-    items-end s c.variables-variables.ensures.space c.args.set.now c.args.number is_meaning c.loop-place.place c.args.package.now c.loop-place.set
+    items-end s c.keeps_invariant.ensures.space c.args.set.now c.args.number is_meaning c.loop-place.place c.args.package.now c.loop-place.set
     c.requires.package
     (let e = c.len-place-end.ensures in omega (arith, e, c.loop-place-test.false)) c.loop-place.invariant

@@ -1,7 +1,6 @@
 use Rattle.std.proofs.Common.{◌∙◌, [], ap, ap₂, nat_cmp, refl, sym, unwrap_or}
 use Rattle.std.specs.Ordering.{is_ne}
-use Rattle.dist_version.specs.Order.{part_cmp}
-use Rattle.dist_version.specs.Spelling.{revision_of, upstream_of}
+use Rattle.dist_version.specs.Spelling.{revision_of}
 use Rattle.dist_version.proofs.BetweenOrder.{after-order, extended-alike}
 use Rattle.dist_version.proofs.Density.{extended}
 use Rattle.dist_version.proofs.Then.{then_go_on, then_stop}

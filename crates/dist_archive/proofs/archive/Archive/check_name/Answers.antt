@@ -6,6 +6,16 @@ use Rattle.dist_archive.specs.Steps.{IsHeld}
 use Rattle.dist_archive.proofs.NameLemmas.{neither, no-elements, not-so}
 use Rattle.dist_archive.proofs.archive.Archive.check_name.Goals as goal
 
+pub returns-then-is_provided : goal.returns-then-is_provided
+returns-then-is_provided c =
+    let unused = neither c.is_in_use.result c.is_in_use.ensures c.if-is_in_use.false in
+    let repo = c.repo.ensures.value ∙ ap (λ (s : SpaceView). s.repository) c.space.ensures in (
+      subst (λ name. ¬ IsTaken c.args.self.now.space.repository name) c.bytes-name.ensures.value unused.0,
+      subst (λ name. ¬ IsHeld c.args.self.now.packages name) c.bytes-name.ensures.value unused.1,
+      subst (λ name. IsProvided c.args.self.now.space.repository name) c.bytes-name.ensures.value
+          (subst (λ (r : PackageList). IsProvided r c.bytes-name.result.now) repo (c.is_provided.ensures.0 c.if-is_provided.true)),
+    )
+
 pub returns : goal.returns
 returns c =
     let unused = neither c.is_in_use.result c.is_in_use.ensures c.if-is_in_use.false in
@@ -16,6 +26,6 @@ returns c =
       unheld = subst (λ name. ¬ IsHeld c.args.self.now.packages name) c.bytes-name.ensures.value unused.1;
       unprovided = subst (λ name. ¬ IsProvided c.args.self.now.space.repository name) c.bytes-name.ensures.value
           (subst (λ (r : PackageList). ¬ IsProvided r c.bytes-name.result.now) repo unprovided);
-      version = (_, c.text-text.ensures.spelled);
+      version = c.keeps_invariant.ensures;
       provides = no-elements c.args.fresh.now.provides (omega (arith, c.len.ensures));
     }

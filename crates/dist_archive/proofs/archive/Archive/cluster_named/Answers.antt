@@ -15,7 +15,7 @@ cluster_of-requires c =
     let named = subst (λ (r : PackageList). IsPackageAnd r.packages c.in_ok-number.number (λ p. p.name ≡ c.args.name.now)) c.repo.ensures.value
     c.in_ok-number.ensures in
     subst (λ (l : ClusterList). Any (λ cluster. Contains cluster c.in_ok-number.number) l.members) (sym c.clusters.ensures)
-    (number-there s c.variables-variables.ensures.space.frame c.in_ok-number.number c.args.name.now named)
+    (number-there s c.keeps_invariant.ensures.space.frame c.in_ok-number.number c.args.name.now named)
 
 pub returns-clause-named : goal.returns-clause-named
 returns-clause-named c =

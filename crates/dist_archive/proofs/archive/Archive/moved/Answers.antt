@@ -12,7 +12,7 @@ use Rattle.dist_archive.proofs.archive.Archive.moved.Goals as goal
 
 pub at-requires : goal.at-requires
 at-requires c =
-    let space = subst (λ (x : SpaceView). IsSpace x) c.space-space.ensures c.variables-variables.ensures.space in
+    let space = subst (λ (x : SpaceView). IsSpace x) c.space-space.ensures c.keeps_invariant.ensures.space in
     let clusters = c.clusters.ensures ∙ ap (λ (x : SpaceView). x.clusters) c.space-space.ensures in
     let members = c.members-members.result.now in
     let are = subst (λ (l : ClusterList). slice_get l.members c.args.cluster ≡ Some members) clusters c.members-members.ensures in
@@ -21,7 +21,7 @@ at-requires c =
 pub returns-in_default-clause-exactly : goal.returns-in_default-clause-exactly
 returns-in_default-clause-exactly c = λ version moved.
     let v = c.args.self.now in
-    let space = subst (λ (x : SpaceView). IsSpace x) c.space-space.ensures c.variables-variables.ensures.space in
+    let space = subst (λ (x : SpaceView). IsSpace x) c.space-space.ensures c.keeps_invariant.ensures.space in
     let clusters = c.clusters.ensures ∙ ap (λ (x : SpaceView). x.clusters) c.space-space.ensures in
     let members = c.members-members.result.now in
     let are = subst (λ (l : ClusterList). slice_get l.members c.args.cluster ≡ Some members) clusters c.members-members.ensures in
@@ -33,7 +33,7 @@ returns-in_default-clause-exactly c = λ version moved.
 pub returns-then-not-is_above_top-clause-exactly : goal.returns-then-not-is_above_top-clause-exactly
 returns-then-not-is_above_top-clause-exactly c = λ version moved.
     let v = c.args.self.now in
-    let space = subst (λ (x : SpaceView). IsSpace x) c.space-space.ensures c.variables-variables.ensures.space in
+    let space = subst (λ (x : SpaceView). IsSpace x) c.space-space.ensures c.keeps_invariant.ensures.space in
     let clusters = c.clusters.ensures ∙ ap (λ (x : SpaceView). x.clusters) c.space-space.ensures in
     let members = c.members-members.result.now in
     let are = subst (λ (l : ClusterList). slice_get l.members c.args.cluster ≡ Some members) clusters c.members-members.ensures in
@@ -45,12 +45,12 @@ returns-then-not-is_above_top-clause-exactly c = λ version moved.
     not-so c.is_above_top.result (test moved.0 moved.1) c.if-not-is_above_top.true
     (moved-above v space.frame c.args.cluster members are least (least-is v space.frame c.args.cluster members are) own.element own.is n
     (λ m there name. let same : Some n ≡ Some m = (c.in-Some.ensures own.element m own.is).1 (there, name) in cc) version moved
-    (_, c.text-text.ensures.spelled))
+    c.keeps_invariant-2.ensures)
 
 pub are_held_at-requires : goal.are_held_at-requires
 are_held_at-requires c =
     let s = c.args.self.now.space in
-    let space = subst (λ (x : SpaceView). IsSpace x) c.space-space.ensures c.variables-variables.ensures.space in
+    let space = subst (λ (x : SpaceView). IsSpace x) c.space-space.ensures c.keeps_invariant.ensures.space in
     let clusters = c.clusters.ensures ∙ ap (λ (x : SpaceView). x.clusters) c.space-space.ensures in
     let members = c.members-members.result.now in
     let are = subst (λ (l : ClusterList). slice_get l.members c.args.cluster ≡ Some members) clusters c.members-members.ensures in
@@ -59,7 +59,7 @@ are_held_at-requires c =
 pub returns-then-not-are_held_at-clause-exactly : goal.returns-then-not-are_held_at-clause-exactly
 returns-then-not-are_held_at-clause-exactly c = λ version moved.
     let v = c.args.self.now in
-    let space = subst (λ (x : SpaceView). IsSpace x) c.space-space.ensures c.variables-variables.ensures.space in
+    let space = subst (λ (x : SpaceView). IsSpace x) c.space-space.ensures c.keeps_invariant.ensures.space in
     let clusters = c.clusters.ensures ∙ ap (λ (x : SpaceView). x.clusters) c.space-space.ensures in
     let members = c.members-members.result.now in
     let are = subst (λ (l : ClusterList). slice_get l.members c.args.cluster ≡ Some members) clusters c.members-members.ensures in
@@ -73,7 +73,7 @@ returns-then-not-are_held_at-clause-exactly c = λ version moved.
 pub returns-clause-exactly : goal.returns-clause-exactly
 returns-clause-exactly c =
     let v = c.args.self.now in
-    let space = subst (λ (x : SpaceView). IsSpace x) c.space-space.ensures c.variables-variables.ensures.space in
+    let space = subst (λ (x : SpaceView). IsSpace x) c.space-space.ensures c.keeps_invariant.ensures.space in
     let clusters = c.clusters.ensures ∙ ap (λ (x : SpaceView). x.clusters) c.space-space.ensures in
     let members = c.members-members.result.now in
     let are = subst (λ (l : ClusterList). slice_get l.members c.args.cluster ≡ Some members) clusters c.members-members.ensures in
@@ -91,7 +91,7 @@ returns-clause-exactly c =
 pub returns-clause-one : goal.returns-clause-one
 returns-clause-one c = λ version moved.
     let v = c.args.self.now in
-    let space = subst (λ (x : SpaceView). IsSpace x) c.space-space.ensures c.variables-variables.ensures.space in
+    let space = subst (λ (x : SpaceView). IsSpace x) c.space-space.ensures c.keeps_invariant.ensures.space in
     let clusters = c.clusters.ensures ∙ ap (λ (x : SpaceView). x.clusters) c.space-space.ensures in
     let members = c.members-members.result.now in
     let are = subst (λ (l : ClusterList). slice_get l.members c.args.cluster ≡ Some members) clusters c.members-members.ensures in

@@ -74,7 +74,7 @@ made c =
     → IsChecked v.space.repository v.packages some.0 c.args.version.now c.args.block.now) (sym c.self.view_is) (c.in_ok-check_upload.ensures some.0) in
     let few = subst (λ (v : ArchiveView). length v.packages + length c.args.block.now.packages < 4294967295) (sym c.self.view_is) c.requires.few in
     let done = upload-changed s c.self.inside.slots c.self.inside.names c.self.inside.held c.self.invariant c.args.cluster c.members.result.now
-    c.of-former.result.now are c.of-former.ensures some.0 some.1 c.args.version.now c.args.block.now (checked some.1) c.len-count.ensures.in_order few
+    c.of-former.result.now are c.of-former.ensures some.0 some.1 c.args.version.now c.args.block.now (checked some.1) c.keeps_invariant-2.ensures.in_order few
     c.in_ok-brought.field-0 c.in_ok-brought.ensures in
     let slots : puts c.in_ok-brought.field-0.touched.items c.in_ok-brought.field-0.slots.items c.self.inside.slots ≡ c.put_all.new.self = cc in
     let held : set c.self.inside.held c.args.cluster (Brought c.in_ok-brought.field-0.brought) ≡ c.put.new.self = cc in (

@@ -14,5 +14,5 @@ returns-clause-adds c =
     let adds : Adds old new (λ k. Contains kept.pairs.items (c.args.number, k)) =
     subst (λ (xs : List (ℕ × ℕ)). Adds old new (λ k. Contains xs (c.args.number, k))) c.deref-2.ensures.value c.in_ok-add_partners.ensures.adds in
     subst (λ (r : PackageList). Adds old new (IsPartner r c.args.number)) c.self.view_is
-    (partners-kept c.self.inside.repo.now c.args.number kept.start kept.end kept.pairs.items old new c.len-end.ensures.in_order
+    (partners-kept c.self.inside.repo.now c.args.number kept.start kept.end kept.pairs.items old new c.keeps_invariant.ensures.in_order
     c.in_ok-turn_to.ensures.are c.in_ok-turn_to.ensures.from c.in_ok-turn_to.ensures.to adds)

@@ -22,7 +22,7 @@ returns-in_ok-hints-in-Some-clause-ends c =
     let hints = c.in_ok-hints-in-Some.ensures ∙ ap (λ ns. ns ++ number ∷ []) numbers in
     let ends = c.unit_steps_are_hints.ensures.hints clauses start g.steps number steps conflict.0
     (subst (λ ts. AllFalse ts (clause_at clauses number)) grown conflict.1) in
-    let few = c.unit_steps_are_hints.ensures.few c.args.log.now.variables clauses start g.steps c.len-clauses.ensures.within.over_variables c.requires.start
+    let few = c.unit_steps_are_hints.ensures.few c.args.log.now.variables clauses start g.steps c.keeps_invariant.ensures.within.over_variables c.requires.start
     steps in (
       subst (λ h. EndsFalse clauses start h) (sym hints) ends,
       omega (arith, ap length hints, length_push (map (λ (s : Step). s.number) g.steps) number, length-map g.steps (λ (s : Step). s.number), few),
