@@ -21,7 +21,7 @@ cone_closed inputs assumptions clause here negatives = λ k d within has assumed
     (λ l h e. h e has assumed closed) clause negatives) k d within
 
 -- all negative literals of a clause are in the set, or the clause has a negative literal outside
-negatives_or_outside : (has : ℕ → Bool) (clause : List Literal) → All (λ l. l.positive ≡ false → has l.variable ≡ true) clause
+pub negatives_or_outside : (has : ℕ → Bool) (clause : List Literal) → All (λ l. l.positive ≡ false → has l.variable ≡ true) clause
     ⊎ ((l : Literal) × Contains clause l × (l.positive ≡ false) × (has l.variable ≡ false))
 negatives_or_outside has [] = inl (All-nil (λ l. l.positive ≡ false → has l.variable ≡ true))
 negatives_or_outside has (l ∷ rest) = ⊎_elim

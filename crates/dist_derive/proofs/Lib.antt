@@ -19,6 +19,7 @@ pub mod SweepLemmas
 pub mod NewLemmas
 pub mod NewLinesLemmas
 pub mod ConeLaws
+pub mod SafeLaws
 pub mod FewLemmas
 pub mod SettledLaws
 pub mod HintLaws

@@ -4,6 +4,7 @@ pub mod Propagation
 pub mod Follows
 pub mod OccurrencesPrivate
 pub mod Cone
+pub mod Safe
 pub mod New
 pub mod VariableSet
 pub mod Marking

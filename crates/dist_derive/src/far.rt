@@ -1,6 +1,6 @@
 //! What lies far from a question's assumptions, kept for the next question that leads there.
 
-ghost use Rattle.std.specs.Prelude.{◌≡◌, ◌≤◌, ℕ, true, false, All, Contains, IfOk, List};
+ghost use Rattle.std.specs.Prelude.{◌≡◌, ◌≤◌, true, false, All, Contains, IfOk, List};
 ghost use Rattle.dist_clause.specs.Formula.{Literal};
 ghost use Rattle.dist_derive.specs.FarPrivate.{IsFar};
 

@@ -1,13 +1,14 @@
 //! Laws over the definitions, on which a search and a reader of certificates stand: what settles a clause, what makes
 //! one new, what hints are, and what the cone is. The functions do nothing; their clauses are the laws.
 
-ghost use Rattle.std.specs.Prelude.{◌≡◌, ◌≢◌, ◌+◌, ◌^◌, ◌≤◌, ◌↔◌, ℕ, Bool, true, false, List, [], ◌∷◌, ◌++◌, length, map, take, All, AllPairs, Any, Contains};
+ghost use Rattle.std.specs.Prelude.{◌≡◌, ◌≢◌, ◌+◌, ◌^◌, ◌≤◌, ◌↔◌, ℕ, Bool, false, List, [], ◌∷◌, ◌++◌, length, map, take, All, AllPairs, Any, Contains};
 ghost use Rattle.dist_clause.specs.Formula.{Literal, IsClauseOver, MakesTrue, IsModel};
 ghost use Rattle.dist_clause.specs.ClauseList.{clause_at};
 ghost use Rattle.dist_derive.specs.ContainmentPrivate.{ContainsAll};
 ghost use Rattle.dist_derive.specs.Propagation.{IsFalse, IsUnset, AllFalse, IsUnit, IsPropagated, IsConsistent, IsSettled};
 ghost use Rattle.dist_derive.specs.Follows.{IsNumberOf, EndsFalse, Follows, Step, AreUnitSteps, EachLineFollows};
 ghost use Rattle.dist_derive.specs.Cone.{InCone, IsWithinCone};
+ghost use Rattle.dist_derive.specs.Safe.{AreSafe, IsResolvent, AreSettledWithin};
 ghost use Rattle.dist_derive.specs.New.{IsNew, EachIsNew};
 
 /// Where each derived line follows from the clauses before it, every model of the input clauses is one of all clauses, and
@@ -117,4 +118,57 @@ pub fn cone_models_extend()
         → ((v : ℕ) → Contains cone v ↔ InCone inputs assumptions v)
         → All (λ clause. IsWithinCone inputs assumptions clause → MakesTrue value clause) inputs
         → ((v : ℕ) → 1 ≤ v → v ≤ n → (¬ Contains cone v) → value v ≡ false) → IsModel value inputs }
+{}
+
+/// Input clauses are safe, and a resolvent of safe clauses is. A clause that follows by resolution alone, with no literal
+/// more, may so be added: all clauses of the log stay safe, for each question's cone. The order of literals is free.
+pub fn what_is_safe()
+    ensures inputs { (inputs : List (List Literal)) → AreSafe inputs inputs }
+    ensures resolvent { (inputs : List (List Literal)) (one other resolvent : List Literal) (l : Literal)
+        → AreSafe inputs (one ∷ []) → AreSafe inputs (other ∷ []) → IsResolvent one other l resolvent
+        → AreSafe inputs (resolvent ∷ []) }
+    ensures any_order { (inputs : List (List Literal)) (clause other : List Literal) → ContainsAll clause other
+        → ContainsAll other clause → AreSafe inputs (clause ∷ []) → AreSafe inputs (other ∷ []) }
+    ensures each { (inputs clauses : List (List Literal)) (clause : List Literal) → AreSafe inputs clauses
+        → Contains clauses clause → AreSafe inputs (clause ∷ []) }
+    ensures line { (clauses : List (List Literal)) (inputs : ℕ) (line : List Literal) → inputs ≤ length clauses
+        → AreSafe (take inputs clauses) clauses → AreSafe (take inputs clauses) (line ∷ [])
+        → AreSafe (take inputs (clauses ++ line ∷ [])) (clauses ++ line ∷ []) }
+{}
+
+/// Where the clauses are safe, true literals within the cone that settle the clauses within it settle all, once every
+/// variable outside is false. Nothing else of the cone is true then.
+pub fn what_settles_all()
+    ensures { (n : ℕ) (inputs clauses : List (List Literal)) (assumptions : List Literal) (cone : List ℕ)
+        (trues : List Literal) → ((v : ℕ) → Contains cone v ↔ InCone inputs assumptions v)
+        → All (IsClauseOver n) clauses → AreSafe inputs clauses → IsConsistent trues
+        → All (λ l. Contains cone l.variable) trues → AreSettledWithin cone clauses trues
+        → (more : List Literal) × IsSettled clauses more × ContainsAll more trues
+        × ((l : Literal) → Contains cone l.variable → Contains more l → Contains trues l) }
+{}
+
+/// So a clause within the cone is new where such literals hold the assumptions, make its rest false and leave its first literal
+/// unset, as what is true before a decision does with the clause of the first implication point behind it. Of one that follows
+/// the first literal can't be false then, since settled literals don't deny what follows.
+pub fn first_points_are_new()
+    ensures unset { (n : ℕ) (clauses : List (List Literal)) (inputs : ℕ) (assumptions : List Literal) (cone : List ℕ)
+        (first : Literal) (rest trues : List Literal)
+        → ((v : ℕ) → Contains cone v ↔ InCone (take inputs clauses) assumptions v)
+        → All (IsClauseOver n) clauses → AreSafe (take inputs clauses) clauses
+        → AllPairs (λ l m. l.variable ≢ m.variable) (first ∷ rest)
+        → All (λ l. Contains cone l.variable) (first ∷ rest) → IsConsistent trues
+        → All (λ l. Contains cone l.variable) trues → AreSettledWithin cone clauses trues
+        → ContainsAll trues assumptions → AllFalse trues rest → IsUnset trues first
+        → IsNew clauses inputs assumptions (first ∷ rest) }
+    ensures follows { (n : ℕ) (clauses : List (List Literal)) (inputs : ℕ) (assumptions : List Literal) (cone : List ℕ)
+        (first : Literal) (rest trues : List Literal) (hints : List ℕ)
+        → ((v : ℕ) → Contains cone v ↔ InCone (take inputs clauses) assumptions v)
+        → All (IsClauseOver n) clauses → AreSafe (take inputs clauses) clauses
+        → AllPairs (λ l m. l.variable ≢ m.variable) (first ∷ rest)
+        → All (λ l. Contains cone l.variable) (first ∷ rest) → IsConsistent trues
+        → All (λ l. Contains cone l.variable) trues → AreSettledWithin cone clauses trues
+        → ContainsAll trues assumptions → AllFalse trues rest → (¬ Contains trues first)
+        → Follows clauses (first ∷ rest) hints → IsNew clauses inputs assumptions (first ∷ rest) }
+    ensures not_denied { (clauses : List (List Literal)) (clause : List Literal) (hints : List ℕ) (trues : List Literal)
+        → Follows clauses clause hints → IsSettled clauses trues → ¬ AllFalse trues clause }
 {}

@@ -31,9 +31,10 @@ mod watches;
 mod watching;
 
 pub use laws::{
-    cone_is_closed, cone_models_extend, lines_keep_models, more_clauses_keep_what_follows,
-    new_is_no_copy, new_lines_are_few, settled_literals_make_new, unit_steps_are_hints,
-    what_settles_a_clause, what_the_cone_depends_on,
+    cone_is_closed, cone_models_extend, first_points_are_new, lines_keep_models,
+    more_clauses_keep_what_follows, new_is_no_copy, new_lines_are_few, settled_literals_make_new,
+    unit_steps_are_hints, what_is_safe, what_settles_a_clause, what_settles_all,
+    what_the_cone_depends_on,
 };
 pub use log::{AppendError, Log};
 pub use occurrences::Link;

@@ -142,6 +142,18 @@ impl Log {
         self.inputs.variables()
     }
 
+    /// The log has at most as many variables and clauses as may be, and is within its limits. Does nothing.
+    pub fn keeps_invariant(&self)
+        ensures variables { self.now.variables ≤ MAX_VARIABLES }
+        ensures inputs { self.now.inputs ≤ length self.now.clauses }
+        ensures clauses { length self.now.clauses ≤ MAX_CLAUSES + MAX_LINES }
+        ensures within { IsWithinLineLimits self.now }
+    {
+        self.variables();
+        self.inputs();
+        self.len();
+    }
+
     /// The clause of a number; the first one has the number 1.
     pub fn clause(&self, number: u32) -> &[Lit]
         requires from_one { 1 ≤ number }

@@ -2,7 +2,7 @@
 //!
 //! Each line is tested and then taken in, so that a line costs what its own literals touch.
 
-ghost use Rattle.std.specs.Prelude.{◌≡◌, ◌<◌, ◌≤◌, ◌↔◌, ◌+◌, ℕ, length, take, All, Contains, IfOk, IsTrue};
+ghost use Rattle.std.specs.Prelude.{◌≡◌, ◌<◌, ◌≤◌, ◌↔◌, ◌+◌, length, take, All, IfOk, IsTrue};
 ghost use Rattle.dist_clause.specs.Formula.{IsClauseOver};
 ghost use Rattle.dist_clause.specs.ClauseList.{clause_at};
 ghost use Rattle.dist_derive.specs.ClauseLog.{inputs_of};
@@ -119,7 +119,7 @@ impl Log {
             ↔ LeavesFirstUnset (take before self.now.clauses) assumptions.now (clause_at self.now.clauses (before + 1))) }
         ensures standing { IfOk result (λ _. IsStandingIfMade self.now.clauses self.now.variables watching.new) }
     {
-        let _clauses = self.len();
+        self.keeps_invariant();
         self.tell(watching, assumptions, self.clause(before + 1), before)
     }
 }

@@ -5,7 +5,7 @@
 //! these is true, they are all passed at once, and so are equal clauses. What is passed was compared when the rows were put
 //! in order; the order itself is only a guess at what is looked at least.
 
-ghost use Rattle.std.specs.Prelude.{◌≡◌, ◌+◌, ◌^◌, ◌<◌, ◌≤◌, false, ℕ, Bool, All, Contains, IfOk, IfSome, List, OnOk, length, slice_index, slice_index_or};
+ghost use Rattle.std.specs.Prelude.{◌≡◌, ◌+◌, ◌^◌, ◌<◌, ◌≤◌, false, ℕ, Bool, All, Contains, IfOk, IfSome, OnOk, length, slice_index, slice_index_or};
 ghost use Rattle.dist_clause.specs.ClauseList.{clause_at};
 ghost use Rattle.dist_clause.specs.Formula.{IsTrueLiteral, Literal, literal};
 ghost use Rattle.dist_derive.specs.RowsPrivate.{AreFrontsOf, AreJumpsOf, AreRowsOf, StandsAt, row_of};

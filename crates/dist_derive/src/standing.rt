@@ -4,8 +4,8 @@
 //! ones than those of the test before. A clause's own literals come on top and go again. Each answer that needs memory that
 //! is refused stays open, and what was kept is given up.
 
-ghost use Rattle.std.specs.Prelude.{◌≡◌, ◌≤◌, ◌↔◌, ◌++◌, ℕ, false, List, [], length, take, All, IfOk, IsTrue};
-ghost use Rattle.dist_clause.specs.Formula.{Literal, IsClauseOver};
+ghost use Rattle.std.specs.Prelude.{◌≡◌, ◌≤◌, ◌↔◌, ◌++◌, false, length, take, All, IfOk, IsTrue};
+ghost use Rattle.dist_clause.specs.Formula.{IsClauseOver};
 ghost use Rattle.dist_derive.specs.ContainmentPrivate.{ContainsAll};
 ghost use Rattle.dist_derive.specs.New.{LeavesFirstUnset};
 ghost use Rattle.dist_derive.specs.WatchesPrivate.{AreWatchesOf, AllGuarded, Tries, IsStanding, IsStandingIfMade, StandsFor};

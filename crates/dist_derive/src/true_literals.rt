@@ -164,7 +164,7 @@ impl TrueLiterals {
         ensures over_variables { IsClauseOver self.now.variables self.now.literals }
         ensures stated { result ≤ MAX_VARIABLES }
     {
-        let _members = self.touched.members();
+        self.touched.keeps_invariant();
         self.touched.len()
     }
 

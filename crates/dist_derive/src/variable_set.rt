@@ -68,6 +68,14 @@ impl VariableSet {
         &self.members
     }
 
+    /// Members are variables that there are, each once. Does nothing.
+    pub fn keeps_invariant(&self)
+        ensures in_range { All (λ v. (1 ≤ v) × (v ≤ self.now.variables)) self.now.members }
+        ensures each_once { AllPairs (λ v w. v ≢ w) self.now.members }
+    {
+        self.members();
+    }
+
     /// The members from a place on.
     pub(crate) fn members_from(&self, place: usize) -> &[u32]
         ensures { All (λ v. (1 ≤ v) × (v ≤ self.now.variables)) result.now }

@@ -3,10 +3,8 @@
 //! The true literals are taken in the order in which they became true, each with the clauses that are found by its
 //! negation. It stops where memory is wanting: nothing is known of the watches then.
 
-ghost use Rattle.std.specs.Prelude.{◌≡◌, ◌≤◌, ◌<◌, ◌+◌, List, false, length, take, IfOk, IsTrue, Contains, slice_index};
-ghost use Rattle.dist_clause.specs.Formula.{Literal};
+ghost use Rattle.std.specs.Prelude.{◌≡◌, ◌≤◌, ◌<◌, ◌+◌, false, length, take, IfOk, IsTrue, Contains};
 ghost use Rattle.dist_clause.specs.ClauseList.{clause_at};
-ghost use Rattle.dist_derive.specs.Propagation.{IsFalse};
 ghost use Rattle.dist_derive.specs.SweepPrivate.{IsRefuted};
 ghost use Rattle.dist_derive.specs.WatchesPrivate.{AreWatchesOf, AllGuarded, Advances, Looks, LooksAgain};
 
@@ -200,7 +198,7 @@ impl Log {
         ensures { IfOk result (λ fine. Looks self.now.clauses last number watches.old watches.new
             literals.old literals.new fine) }
     {
-        let _clauses = self.len();
+        self.keeps_invariant();
         if literals.is_true(first) {
             return Ok(true);
         }

@@ -4,7 +4,7 @@
 //! clause when one of its two becomes false, and another literal takes that one's place then. Literals that become unset
 //! again leave all that as it is.
 
-ghost use Rattle.std.specs.Prelude.{◌≡◌, ◌≢◌, ◌+◌, ◌<◌, ◌≤◌, ℕ, false, List, [], ◌∷◌, ◌++◌, length, IfOk, IfSome, IfNone, IsTrue, OnOk, Contains, slice_index};
+ghost use Rattle.std.specs.Prelude.{◌≡◌, ◌≢◌, ◌+◌, ◌<◌, ◌≤◌, ◌^◌, ℕ, false, List, [], ◌∷◌, ◌++◌, length, IfOk, IfSome, IfNone, IsTrue, OnOk, Contains, slice_index};
 ghost use Rattle.std.specs.List.{swap_remove};
 ghost use Rattle.dist_clause.specs.Formula.{Literal};
 ghost use Rattle.dist_clause.specs.ClauseList.{clause_at};
@@ -113,6 +113,13 @@ impl Watches {
         }
     }
 
+    /// A literal's list has fewer numbers than 64 bits can count. Does nothing.
+    fn list_is_short(&self, literal: Lit)
+        ensures { length (list_of self.now literal) < 2 ^ 64 }
+    {
+        self.count(literal);
+    }
+
     /// The number at a place in a literal's list.
     pub(crate) fn number_at(&self, literal: Lit, place: usize) -> Option<u32>
         ensures some { IfSome result (λ number. (place < length (list_of self.now literal))
@@ -215,7 +222,7 @@ impl Watches {
         ensures pending { (n : ℕ) → n ≢ number → Pends self.old literal place n → Pends self.new literal result n }
     {
         if self.is_by(number, literal) {
-            let _fits = self.count(literal);
+            self.list_is_short(literal);
             place + 1
         } else {
             self.take_out(literal, place);

@@ -2,7 +2,7 @@
 
 ghost use Rattle.std.specs.Prelude.{◌≡◌, ◌≤◌, ℕ, false, List, [], IfOk, IsTrue};
 ghost use Rattle.dist_clause.specs.Formula.{Literal};
-ghost use Rattle.dist_derive.specs.WatchesPrivate.{IsGrounded, IsStanding, IsStandingIfMade};
+ghost use Rattle.dist_derive.specs.WatchesPrivate.{IsGrounded, IsStanding};
 
 use crate::true_literals::TrueLiterals;
 use crate::watches::Watches;

@@ -1,4 +1,4 @@
-use Rattle.std.proofs.Common.{◌+◌, ◌⊎◌, List, arith, subst}
+use Rattle.std.proofs.Common.{◌⊎◌, List, arith, subst}
 use Rattle.std.specs.List.{All, Contains}
 use Rattle.dist_clause.specs.ClauseList.{clause_at}
 use Rattle.dist_clause.specs.Formula.{Literal}

@@ -1,4 +1,4 @@
-use Rattle.std.proofs.Common.{◌≡◌, ◌∙◌, ap, subst, sym, true}
+use Rattle.std.proofs.Common.{◌∙◌, ap, subst, sym}
 use Rattle.dist_derive.specs.FarPrivate.{FarView, IsFar}
 use Rattle.dist_derive.proofs.log.Log.has_far.Goals as goal
 

@@ -11,7 +11,7 @@ pub is_true-requires : goal.is_true-requires
 is_true-requires c =
     let n = c.args.self.now.variables in
     let clause = clause_at c.args.self.now.clauses c.args.number in
-    let over : IsClauseOver n clause = c.len-clauses.ensures.within.over_variables (c.args.number - 1) []
+    let over : IsClauseOver n clause = c.keeps_invariant.ensures.within.over_variables (c.args.number - 1) []
     (omega (arith, c.requires.from_one, c.requires.to_last, c.requires.last)) in
     let range = All-contains (λ (l : Literal). (1 ≤ l.variable) × (l.variable ≤ n)) clause c.args.first over.in_range c.requires.member in
     omega (arith, range.1, c.requires.same_variables)
