@@ -1,6 +1,8 @@
 -- What a checker begins with behind a first line.
-use Rattle.std.proofs.Common.{◌≡◌, ◌≢◌, ◌↔◌, inl, inr, ℕ, ◌+◌, ◌-◌, ◌<◌, ◌≤◌, Bool, List, [], length, take, drop, None, Err, refl, sym, ap}
+use Rattle.std.proofs.Common.{◌≡◌, ◌≢◌, ◌↔◌, inl, inr, ℕ, ◌+◌, ◌-◌, ◌<◌, ◌≤◌, Bool, false, true, List, [], length, take, drop}
+use Rattle.std.proofs.Common.{Option, None, Err, refl, sym, ap}
 use Rattle.std.proofs.Common.{subst, ◌∙◌, arith}
+use Rattle.std.specs.Bool.{then_some}
 use Rattle.std.specs.Prelude.{All}
 use Rattle.std.proofs.lemmas.Bool.{cases_lt}
 use Rattle.std.proofs.lemmas.List.{drop_all, length-take}
@@ -36,6 +38,7 @@ use Rattle.dist_subject.specs.Limited.{PassesFirst}
 use Rattle.dist_subject.specs.MemberLaws.{model-alike, value-among}
 use Rattle.dist_subject.specs.Present.{present_matter, truth_of}
 use Rattle.dist_line_check.specs.LinesAt.{AreFuturesBy}
+use Rattle.dist_check.specs.JudgedSpace.{IsSpaceGiven}
 use Rattle.dist_check.specs.LaysOut.{IsCluster, LaysOut}
 use Rattle.dist_check.specs.Start.{IsStart, StartAnswers}
 use Rattle.dist_check.specs.StartPrivate.{HasNumbers, IsLargeFault, IsSubject}
@@ -142,6 +145,16 @@ later-subject r essential limits kind s set ends layout packages later inputs wi
           (subst (λ (n : ℕ). All (IsClauseOver n) set.clauses) variables within.over_variables) (two is.are_clauses);
     }
 
+-- the space is given where it is wanted
+pub given : (r : PackageList) (limits : Limits) (kind : CertKind) (essential : Bool) (s : SpaceView) (set : ClauseList) (wanted : Bool)
+    (space : Option SpaceView) → AreInputsOf r kind essential limits (Later s set.clauses) set → space ≡ then_some wanted s
+    → IsSpaceGiven r limits wanted kind essential space
+given r limits kind essential s set wanted space inputs is = subst (IsSpaceGiven r limits wanted kind essential) (sym is) (by wanted)
+  where
+    by : (b : Bool) → IsSpaceGiven r limits b kind essential (then_some b s)
+    by true = (refl, record { inputs = set.clauses; is_basis = inputs.is_basis; within = inputs.kept })
+    by false = λ (wants : false ≡ true). cc
+
 -- ---- numbers that are passed
 
 pub large-answers : (r : PackageList) (limits : Limits) (h : Header) (e : ReadCertError) → IsLargeFault (PassesFirst r h.kind h.essential limits) e
@@ -169,7 +182,7 @@ abbrev pub noted : ℕ → LayoutView → StateView
 noted packages layout = record {
   packages = packages;
   layout = layout;
-  window = record { kept = []; count = 0 };
+  window = record { kept = []; count = 0; layout = layout };
   next = 1;
   group = empty_group;
   claims = [];

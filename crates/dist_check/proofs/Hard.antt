@@ -10,7 +10,6 @@ use Rattle.dist_cert.specs.declared.records.Header.{Header}
 use Rattle.dist_cert.specs.Form.{Word}
 use Rattle.dist_cert.specs.Subject.{Matter}
 use Rattle.dist_cert.specs.Groups.{clause_of, derived, numbered, IsUndecidedIn}
-use Rattle.dist_line_check.specs.ToldLaws.{stable, most-told}
 use Rattle.dist_check.proofs.TriedMarks.{tried}
 use Rattle.dist_line_check.specs.LinesAt.{AreRight}
 
@@ -28,8 +27,7 @@ within-bound few matter h steps right question closed cone exact =
     let earlier = trial.earlier in
     let inputs : take (length matter.inputs) (numbered matter earlier) ≡ matter.inputs = take_at matter.inputs (derived earlier) (length matter.inputs) refl in
     let bound : length (derived trial.since) ≤ 3 ^ length cone
-    = stable (most-told (length (derived trial.since)) (3 ^ length cone)) (λ none. trial.new (λ new.
-    none (few (numbered matter earlier) (length matter.inputs) (clause_of question) (derived trial.since) cone
+    = few (numbered matter earlier) (length matter.inputs) (clause_of question) (derived trial.since) cone
     (omega (arith, length-append matter.inputs (derived earlier)))
-    (subst (λ cs. (v : ℕ) → Contains cone v ↔ InCone cs (clause_of question) v) (sym inputs) exact) new))) in
+    (subst (λ cs. (v : ℕ) → Contains cone v ↔ InCone cs (clause_of question) v) (sym inputs) exact) trial.new in
     omega (arith, trial.enough, bound)

@@ -38,7 +38,7 @@ use Rattle.dist_cert.specs.Form.{Word, ArePairs, KeepsRules, record_text, HasFor
 use Rattle.dist_cert.specs.Groups.{clause_of, installations, installation_at, is_claim, claim_count, group, IsRefutedIn}
 use Rattle.dist_cert.specs.GroupLaws.{all-at}
 use Rattle.dist_cert.specs.ClaimRules as rules
-use Rattle.dist_cert.specs.ClaimRules.{yes, claim_question, challenge_question, IsNamed, IsPairFor, IsCovered, SomeInstallation, HoldsChallenged, HoldsClaim}
+use Rattle.dist_cert.specs.ClaimRules.{yes, claim_question, challenge_question, IsNamed, IsPairFor, SomeInstallation, HoldsChallenged, HoldsClaim}
 use Rattle.dist_cert.specs.ListLaws.{any-from}
 use Rattle.dist_cert.specs.LineRules.{IsNoFuture}
 use Rattle.dist_cert.specs.Accepted.{pairs_from_zero, claim_in}

@@ -7,6 +7,7 @@ mod Claims
 mod LaterClaims
 mod Whole
 mod TriedTold
+mod NewTold
 mod TriedMarks
 mod Hard
 mod Laid

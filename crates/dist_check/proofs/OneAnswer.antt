@@ -6,7 +6,8 @@ use Rattle.dist_repo.specs.PackageList.{PackageList}
 use Rattle.dist_cert.specs.declared.faults.ReadCertError.TheVariants.{Bad, Work}
 use Rattle.dist_cert.specs.Accepted.{claims_in}
 use Rattle.dist_judge.specs.AnswerLaws as answers
-use Rattle.dist_check.specs.Answers.{Answers, IsOfText}
+use Rattle.dist_check.specs.Answers.{Answers}
+use Rattle.dist_judge.specs.Causes.{IsOfText}
 use Rattle.dist_check.specs.declared.verdict.Verdict.TheVariants.{Accepted, Refused}
 use Rattle.std.specs.declared.result.Result.{Result}
 use Rattle.dist_outside.specs.declared.trouble.WorkError.{WorkError}

@@ -22,6 +22,7 @@ use Rattle.dist_cert.specs.Tried.{EachFollows, IsTried, marked, AreMarksTried}
 use Rattle.dist_judge.specs.LineLaws.{HaveForms}
 use Rattle.dist_line_check.specs.LinesAt.{AreRight}
 use Rattle.dist_line_check.specs.ToldLaws.{stable, less-told}
+use Rattle.dist_check.proofs.NewTold.{each-new-stable}
 use Rattle.dist_check.proofs.TriedTold.{ends-told, undecided-in-told, closed-front}
 use Rattle.dist_check.proofs.Places.{image-of}
 use Rattle.dist_check.proofs.GroupLemmas.{group-behind}
@@ -40,7 +41,8 @@ tried matter h steps right question closed = record {
   enough = not-less (length (derived since)) h.limit
       (λ less. right asked lines.Undecided later closed.3 causes.LimitNotReached (earlier, question, since, opened, less));
   follow = follow;
-  new = λ none. right asked lines.Undecided later closed.3 causes.NotNew (earlier, question, since, opened, none);
+  new = each-new-stable (numbered matter earlier) (length matter.inputs) (clause_of question) (derived since)
+      (λ none. right asked lines.Undecided later closed.3 causes.NotNew (earlier, question, since, opened, none));
 }
   where
     earlier : List CertRecord

@@ -16,7 +16,7 @@ use Rattle.dist_cert.specs.Groups.{leaves_open, IsUndecidedIn}
 use Rattle.dist_cert.specs.GroupLaws.{none-closed}
 use Rattle.dist_line_check.specs.ToldLaws.{IsTold, most-told, bool-told, any-told, all-told, contains-told}
 
-both-told : {P Q : Type 0} → IsTold P → IsTold Q → IsTold (P × Q)
+pub both-told : {P Q : Type 0} → IsTold P → IsTold Q → IsTold (P × Q)
 both-told (inl p) (inl q) = inl (p, q)
 both-told (inl p) (inr never) = inr (λ h. never h.1)
 both-told (inr never) q = inr (λ h. never h.0)
@@ -26,13 +26,13 @@ either-told (inl p) q = inl (inl p)
 either-told (inr never) (inl q) = inl (inr q)
 either-told (inr never) (inr none) = inr (λ h. ⊎_elim never none h)
 
-not-told : {P : Type 0} → IsTold P → IsTold (¬ P)
+pub not-told : {P : Type 0} → IsTold P → IsTold (¬ P)
 not-told (inl p) = inr (λ never. never p)
 not-told (inr never) = inl never
 
 -- ---- literals and words
 
-literal-told : (l m : Literal) → IsTold (l ≡ m)
+pub literal-told : (l m : Literal) → IsTold (l ≡ m)
 literal-told l m = elim (cases_eq l.variable m.variable) [
   | inr other ↦ inr (λ e. other (ap (λ (x : Literal). x.variable) e))
   | inl same ↦ elim (bool-told l.positive m.positive) [
@@ -64,10 +64,10 @@ words-told (v ∷ vs) (w ∷ ws) = elim (word-told v w) [
 
 -- ---- hints
 
-false-told : (trues : List Literal) (l : Literal) → IsTold (IsFalse trues l)
+pub false-told : (trues : List Literal) (l : Literal) → IsTold (IsFalse trues l)
 false-told trues l = contains-told trues (negation l) (λ m. literal-told m (negation l))
 
-unit-told : (trues clause : List Literal) (l : Literal) → IsTold (IsUnit trues clause l)
+pub unit-told : (trues clause : List Literal) (l : Literal) → IsTold (IsUnit trues clause l)
 unit-told trues clause l =
     let member = contains-told clause l (λ m. literal-told m l) in
     let unset = both-told (not-told (contains-told trues l (λ m. literal-told m l))) (not-told (false-told trues l)) in

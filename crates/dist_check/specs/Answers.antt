@@ -2,7 +2,6 @@
 use Rattle.std.specs.Prelude.{◌≢◌, ℕ, List, Result, Ok, Err}
 use Rattle.dist_outside.specs.declared.limits.Limits.{Limits}
 use Rattle.dist_outside.specs.declared.trouble.WorkError.{WorkError}
-use Rattle.dist_outside.specs.declared.trouble.WorkError.TheVariants.{ReadFault, NoMemory}
 use Rattle.dist_repo.specs.PackageList.{PackageList}
 use Rattle.dist_cert.specs.declared.faults.ReadCertError.{ReadCertError}
 use Rattle.dist_cert.specs.declared.faults.ReadCertError.TheVariants.{Bad, Work}
@@ -47,12 +46,6 @@ VerdictMeans r (Refused fault) = Unit {0}
 abbrev pub IsVerdict : PackageList → Limits → List ℕ → Verdict → Type 0
 IsVerdict r limits text (Accepted h made) = IsAccepted r limits text h made
 IsVerdict r limits text (Refused fault) = IsRefused r limits text fault
-
--- an answer that the text decides: neither a fault of reading nor want of memory
-abbrev pub IsOfText : Result Verdict WorkError → Type 0
-IsOfText (Err ReadFault) = ⊥
-IsOfText (Err NoMemory) = ⊥
-IsOfText result = Unit {0}
 
 -- the text has a first line of kind outdated or challenged
 abbrev pub AsksOfFutures : List ℕ → Type 0

@@ -8,5 +8,6 @@ pub mod StartPrivate
 pub mod Checking
 pub mod CheckedPrivate
 pub mod Answers
+pub mod JudgedSpace
 pub mod Means
 pub mod MeansExamples

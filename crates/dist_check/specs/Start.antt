@@ -13,9 +13,9 @@ use Rattle.dist_subject.specs.Basis.{Basis, IsBasisOf, matter_of}
 use Rattle.dist_subject.specs.Limited.{AreInputsWithin, PassesFirst}
 use Rattle.dist_line_check.specs.LinesAt.{AreFuturesBy}
 use Rattle.dist_check.specs.LaysOut.{LaysOut}
+use Rattle.dist_check.specs.declared.start.Started.{Started}
 use Rattle.dist_check_group.specs.Group.{empty_group}
 use Rattle.dist_line_check.specs.Checker.{CheckerView}
-use Rattle.dist_line_check.specs.declared.lines.Kept.{Kept}
 use Rattle.dist_check_state.specs.State.{StateView}
 
 -- What is kept behind a first line with the right numbers, of which what it is judged by keeps the numbers.
@@ -35,7 +35,7 @@ pub record IsStart (r : PackageList) (limits : Limits) (h : Header) (c : Checker
   pub line_limit : c.log.line_limit ≡ limits.lines
   pub line_literal_limit : c.log.line_literal_limit ≡ limits.line_literals
   pub within : IsWithinLineLimits c.log
-  pub window : s.window ≡ record { kept = []; count = 0 }
+  pub window : s.window ≡ record { kept = []; count = 0; layout = s.layout }
   pub question : c.question ≡ None
   pub next : s.next ≡ 1
   pub group_is : s.group ≡ empty_group
@@ -49,8 +49,8 @@ pub record IsUnfit (r : PackageList) (limits : Limits) (h : Header) : Type 0 whe
   pub wrong : ¬ Fits (matter_of r basis) h
 
 -- When each answer comes.
-abbrev pub StartAnswers : PackageList → Limits → Header → Result (Kept StateView) ReadCertError → Type 0
-StartAnswers r limits h (Ok kept) = IsStart r limits h kept.checker kept.notes
+abbrev pub StartAnswers : PackageList → Limits → Header → Result Started ReadCertError → Type 0
+StartAnswers r limits h (Ok started) = IsStart r limits h started.kept.checker started.kept.notes
 StartAnswers r limits h (Err (Bad fault)) = (fault.line ≡ 1) × (fault.cause ≡ BadHeader) × IsUnfit r limits h
 StartAnswers r limits h (Err (Work (TooLarge what))) = PassesFirst r h.kind h.essential limits what
 StartAnswers r limits h (Err (Work NoMemory)) = Unit {0}

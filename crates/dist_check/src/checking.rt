@@ -8,6 +8,7 @@ ghost use Rattle.dist_cert.specs.Reading.{text_left};
 ghost use Rattle.dist_check.specs.Answers.{AcceptedMeans};
 ghost use Rattle.dist_check.specs.CertificateLines.{certificate_lines};
 ghost use Rattle.dist_check.specs.Checking.{LargeCause, TextAnswers};
+ghost use Rattle.dist_check.specs.JudgedSpace.{IsSpaceGiven};
 ghost use Rattle.dist_line_check.specs.Checked.{IsChecked};
 ghost use Rattle.dist_judge.specs.Causes.{TextCause};
 ghost use Rattle.dist_judge.specs.Judging.{OfText};
@@ -15,20 +16,22 @@ ghost use Rattle.dist_subject.specs.Limited.{AreStated};
 
 use crate::certificates::Certificates;
 use crate::laws::accepted_claims_hold;
-use crate::start::start;
+use crate::start::{Started, start};
 use dist_cert::{Claims, Header, ReadCertError, Reader, forms_are_clear};
 use dist_check_state::State;
 use dist_line_check::{Kept, check_lines};
 use dist_outside::{Desk, Limits};
 use dist_repo::Repository;
+use dist_space::Space;
 use dist_subject::models_are_healthy;
 use std::alloc::Global;
 
-/// What was read of an accepted certificate.
-#[derive(Debug, Drop)]
+/// What was read of an accepted certificate, and the space that it is judged by, where it is wanted and there is one.
+#[derive(Drop)]
 pub(crate) struct Checked {
     pub(crate) header: Header,
     pub(crate) claims: Claims,
+    pub(crate) space: Option<Space>,
 }
 
 /// What the text behind its first line claims, with what is kept behind that one.
@@ -60,6 +63,7 @@ pub(crate) fn check_text<D: Desk>(
     alloc: Global,
     repo: &Repository,
     desk: &mut D,
+    wants_space: bool,
     limits: &Limits,
 ) -> Result<Checked, ReadCertError>
     requires reading { IsReading (D.view desk.old).mode }
@@ -69,6 +73,7 @@ pub(crate) fn check_text<D: Desk>(
         (λ text. TextAnswers (λ c. c.header) (λ c. c.claims) repo.now limits.now text result) }
     ensures some { (text : List ℕ) × TextAnswers (λ c. c.header) (λ c. c.claims) repo.now limits.now text result }
     ensures means { IfOk result (λ c. AcceptedMeans repo.now c.header c.claims) }
+    ensures space { IfOk result (λ c. IsSpaceGiven repo.now limits.now wants_space c.header.kind c.header.essential c.space) }
     ensures cause { IfErr result (TextCause (D.view desk.old) (D.view desk.new)) }
     ensures large { IfErr result (LargeCause repo.now limits.now) }
     ensures only_reads { OnlyReads (D.view desk.old) (D.view desk.new) }
@@ -76,10 +81,15 @@ pub(crate) fn check_text<D: Desk>(
     forms_are_clear();
     models_are_healthy();
     accepted_claims_hold();
-    let _in_order = repo.len();
+    repo.keeps_invariant();
     let mut reader = Reader::new(alloc, limits);
     let header = reader.header(desk)?;
-    let kept = start(alloc, repo, &header, limits)?;
+    let started = start(alloc, repo, &header, wants_space, limits)?;
+    let Started { kept, space } = started;
     let claims = claims_behind(alloc, repo, desk, limits, &header, &mut reader, kept)?;
-    Ok(Checked { header, claims })
+    Ok(Checked {
+        header,
+        claims,
+        space,
+    })
 }

@@ -14,7 +14,8 @@ ghost use Rattle.dist_cert.specs.Form.{Word};
 ghost use Rattle.dist_cert.specs.Tried.{AreMarksTried};
 ghost use Rattle.dist_cert.specs.Groups.{clause_of, IsUndecidedIn};
 ghost use Rattle.dist_check.specs.declared.verdict.Verdict.{Verdict};
-ghost use Rattle.dist_check.specs.Answers.{Answers, AsksOfFutures, IsOfText, IsVerdict};
+ghost use Rattle.dist_check.specs.Answers.{Answers, AsksOfFutures, IsVerdict};
+ghost use Rattle.dist_judge.specs.Causes.{IsOfText};
 ghost use Rattle.dist_subject.specs.Basis.{Basis, HaveVersions, IsAccepted, IsRefused, matter_of};
 ghost use Rattle.dist_check.specs.Means.{Means};
 

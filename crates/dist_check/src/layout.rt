@@ -17,8 +17,7 @@ fn cluster_from_one(space: &Space, member: u32) -> u32
     requires { member < length space.now.repository.packages }
     ensures { result ≡ slice_index space.now.cluster_of member + 1 }
 {
-    let _clusters = space.clusters().len();
-    let _space = space.variables();
+    space.keeps_invariant();
     space.cluster_of(member) + 1
 }
 
@@ -79,7 +78,7 @@ pub(crate) fn layout_of(alloc: Global, space: &Space, kind: CertKind) -> Result<
         → LaysOut (later_matter space.now inputs) layout) }
 {
     packages_come_first();
-    let _space = space.variables();
+    space.keeps_invariant();
     let owners = owners(alloc, space)?;
     let classes = classes(alloc, space)?;
     Ok(Layout::new(kind, owners, classes))

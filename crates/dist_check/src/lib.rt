@@ -12,9 +12,9 @@ mod layout;
 mod start;
 mod verdict;
 
-pub use file::check;
+pub use file::{check, check_with_space};
 pub use laws::{
     accepted_claims_hold, each_text_has_a_verdict, marks_are_tried, texts_have_one_answer,
     texts_have_one_verdict, undecided_questions_are_hard,
 };
-pub use verdict::Verdict;
+pub use verdict::{Judged, Verdict};

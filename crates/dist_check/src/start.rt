@@ -1,8 +1,8 @@
 //! The first line against what certificates of its kind and mode are judged by.
-ghost use Rattle.std.specs.Prelude.{◌≡◌, ◌≢◌, ◌↔◌, Bool, IfErr, IfOk, IsTrue};
-ghost use Rattle.dist_repo.specs.PackageList.{PackageList};
+ghost use Rattle.std.specs.Prelude.{◌≡◌, ◌≢◌, ◌↔◌, IfErr, IfOk, IsTrue, None};
 ghost use Rattle.dist_repo.specs.Size.{IsWithinSize};
 ghost use Rattle.dist_subject.specs.Limited.{AreStated, PassesFirst, PassesLater, PassesPresent};
+ghost use Rattle.dist_check.specs.JudgedSpace.{IsSpaceGiven};
 ghost use Rattle.dist_check.specs.Start.{StartAnswers};
 ghost use Rattle.dist_check.specs.StartPrivate.{HasNumbers, IsLargeFault, IsSubject};
 
@@ -17,17 +17,25 @@ use dist_judge::bad_heading;
 use dist_line_check::{Checker, FutureClauses, Kept};
 use dist_outside::Limits;
 use dist_repo::Repository;
-use dist_space::packages_come_first;
+use dist_space::{Space, packages_come_first};
 use dist_subject::{later_inputs, present_inputs};
 use std::alloc::Global;
 
-/// What certificates of a kind and mode are judged by.
+/// What certificates of a kind and mode are judged by, with its space where that is wanted and there is one.
 #[derive(Drop)]
 struct Subject {
     packages: u32,
     inputs: ClauseSet,
     layout: Layout,
     future: FutureClauses,
+    space: Option<Space>,
+}
+
+/// What is kept behind a first line, and the space of what that one is judged by, where it is wanted and there is one.
+#[derive(Drop)]
+pub(crate) struct Started {
+    pub(crate) kept: Kept<State>,
+    pub(crate) space: Option<Space>,
 }
 
 /// The packages as they are.
@@ -41,6 +49,7 @@ fn present_subject(
     requires limits { AreStated limits.now }
     ensures ok { IfOk result (λ s. IsSubject repo.now limits.now CertKind.Strong essential
         s.packages s.inputs s.layout s.future) }
+    ensures none { IfOk result (λ s. s.space ≡ None) }
     ensures err { IfErr result (IsLargeFault (PassesPresent repo.now essential limits.now)) }
 {
     let inputs = present_inputs(alloc, repo, essential, limits)?;
@@ -54,6 +63,7 @@ fn present_subject(
             behind: count,
             last: count,
         },
+        space: None,
     })
 }
 
@@ -63,6 +73,7 @@ fn later_subject(
     repo: &Repository,
     kind: CertKind,
     essential: bool,
+    wants_space: bool,
     limits: &Limits,
 ) -> Result<Subject, ReadCertError>
     requires kind { kind ≢ CertKind.Strong }
@@ -70,13 +81,14 @@ fn later_subject(
     requires limits { AreStated limits.now }
     ensures ok { IfOk result (λ s. IsSubject repo.now limits.now kind essential
         s.packages s.inputs s.layout s.future) }
+    ensures space { IfOk result (λ s. IsSpaceGiven repo.now limits.now wants_space kind essential s.space) }
     ensures err { IfErr result (IsLargeFault (PassesLater repo.now essential limits.now)) }
 {
     future_clauses_are_two_parts();
     packages_come_first();
     let made = later_inputs(alloc, repo, essential, limits)?;
     let layout = layout_of(alloc, &made.space, kind)?;
-    let _within = made.clauses.len();
+    made.clauses.keeps_invariant();
     Ok(Subject {
         packages: made.space.package_count(),
         inputs: made.clauses,
@@ -86,6 +98,7 @@ fn later_subject(
             behind: made.ends.today,
             last: made.ends.after,
         },
+        space: wants_space.then_some(made.space),
     })
 }
 
@@ -94,21 +107,37 @@ fn subject_of(
     alloc: Global,
     repo: &Repository,
     header: &Header,
+    wants_space: bool,
     limits: &Limits,
 ) -> Result<Subject, ReadCertError>
     requires size { IsWithinSize repo.now }
     requires limits { AreStated limits.now }
     ensures ok { IfOk result (λ s. IsSubject repo.now limits.now header.now.kind header.now.essential
         s.packages s.inputs s.layout s.future) }
+    ensures space { IfOk result (λ s. IsSpaceGiven repo.now limits.now wants_space header.now.kind header.now.essential s.space) }
     ensures err { IfErr result (IsLargeFault (PassesFirst repo.now header.now.kind header.now.essential limits.now)) }
 {
     match header.kind {
         CertKind::Strong => present_subject(alloc, repo, header.essential, limits),
         CertKind::Outdated => {
-            later_subject(alloc, repo, CertKind::Outdated, header.essential, limits)
+            later_subject(
+                alloc,
+                repo,
+                CertKind::Outdated,
+                header.essential,
+                wants_space,
+                limits,
+            )
         }
         CertKind::Challenged => {
-            later_subject(alloc, repo, CertKind::Challenged, header.essential, limits)
+            later_subject(
+                alloc,
+                repo,
+                CertKind::Challenged,
+                header.essential,
+                wants_space,
+                limits,
+            )
         }
     }
 }
@@ -127,18 +156,21 @@ pub(crate) fn start(
     alloc: Global,
     repo: &Repository,
     header: &Header,
+    wants_space: bool,
     limits: &Limits,
-) -> Result<Kept<State>, ReadCertError>
+) -> Result<Started, ReadCertError>
     requires size { IsWithinSize repo.now }
     requires limits { AreStated limits.now }
-    ensures { StartAnswers repo.now limits.now header.now result }
+    ensures answers { StartAnswers repo.now limits.now header.now result }
+    ensures space { IfOk result (λ s. IsSpaceGiven repo.now limits.now wants_space header.now.kind header.now.essential s.space) }
 {
-    let subject = subject_of(alloc, repo, header, limits)?;
+    let subject = subject_of(alloc, repo, header, wants_space, limits)?;
     let Subject {
         packages,
         inputs,
         layout,
         future,
+        space,
     } = subject;
     if !has_numbers(packages, &inputs, header) {
         return Err(bad_heading());
@@ -147,9 +179,13 @@ pub(crate) fn start(
     let log = Log::covered(alloc, inputs, limits.lines, limits.line_literals)?;
     let notes = State::new(alloc, packages, variables, layout);
     match Checker::new(alloc, header.limit, future, log) {
-        Ok(checker) => Ok(Kept { checker, notes }),
+        Ok(checker) => Ok(Started {
+            kept: Kept { checker, notes },
+            space,
+        }),
         Err(error) => {
             drop(notes);
+            drop(space);
             Err(ReadCertError::from(error))
         }
     }

@@ -1,5 +1,6 @@
 //! What a checker says of a certificate.
 use dist_cert::{CertFault, Claims, Header};
+use dist_space::Space;
 
 /// The answer on a text that was read.
 #[derive(Debug, Drop)]
@@ -8,4 +9,11 @@ pub enum Verdict {
     Accepted(Header, Claims),
     /// It is refused, with its first fault.
     Refused(CertFault),
+}
+
+/// A verdict, and the space of futures that an accepted certificate is judged by, where it was wanted.
+#[derive(Drop)]
+pub struct Judged {
+    pub verdict: Verdict,
+    pub space: Option<Space>,
 }

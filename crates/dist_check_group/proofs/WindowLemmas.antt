@@ -7,9 +7,8 @@ use Rattle.std.proofs.lemmas.List.Elements.{All-drop, All-push}
 use Rattle.std.proofs.lemmas.List.{drop-map, length-drop, length-map, map-append}
 use Rattle.dist_cert.specs.Rising.{is_among}
 use Rattle.dist_cert.specs.declared.TheConstants.{REACH}
-use Rattle.dist_check_group.specs.Challenge.{use_each}
-use Rattle.dist_check_group.specs.Layout.{LayoutView, used}
-use Rattle.dist_check_group.specs.Window.{WindowView, latest, members_at}
+use Rattle.dist_check_group.specs.Layout.{LayoutView}
+use Rattle.dist_check_group.specs.Window.{WindowView, latest}
 use Rattle.dist_check_group.specs.WindowPrivate.{members_of}
 use Rattle.dist_check_group.specs.declared.window.Installation.{Installation}
 use Rattle.dist_check_group.proofs.RuleLemmas.{among-filter}
@@ -50,16 +49,16 @@ latest-more kept one =
     ∙ ap (λ n. drop (n - REACH) (map members_of kept ++ members_of one ∷ [])) (let e : length kept + 1 ≡ length (map members_of kept ++ members_of one ∷ [])
     = omega (arith, length-map kept members_of, length-append (map members_of kept) (members_of one ∷ [])) in e)
 
-abbrev seen : List (List ℕ) → ℕ → WindowView
-seen kept count = record { kept = kept; count = count }
+abbrev seen : List (List ℕ) → ℕ → LayoutView → WindowView
+seen kept count layout = record { kept = kept; count = count; layout = layout }
 
 -- what a window keeps with one more
-pub added : (kept new : List Installation) (one : Installation) (count : ℕ) (members : List ℕ) (old : WindowView)
-    → new ≡ drop (length kept + 1 - REACH) (kept ++ one ∷ []) → members_of one ≡ members → seen (map members_of kept) count ≡ old
-    → seen (map members_of new) (count + 1) ≡ seen (latest (old.kept ++ members ∷ [])) (old.count + 1)
-added kept new one count members old is is_one is_old =
-    subst (λ (o : WindowView). seen (map members_of new) (count + 1) ≡ seen (latest (o.kept ++ members ∷ [])) (o.count + 1)) is_old
-    (ap (λ (ks : List (List ℕ)). seen ks (count + 1))
+pub added : (kept new : List Installation) (one : Installation) (count : ℕ) (layout : LayoutView) (members : List ℕ) (old : WindowView)
+    → new ≡ drop (length kept + 1 - REACH) (kept ++ one ∷ []) → members_of one ≡ members → seen (map members_of kept) count layout ≡ old
+    → seen (map members_of new) (count + 1) layout ≡ record old { kept = latest (old.kept ++ members ∷ []); count = old.count + 1 }
+added kept new one count layout members old is is_one is_old =
+    subst (λ (o : WindowView). seen (map members_of new) (count + 1) layout ≡ record o { kept = latest (o.kept ++ members ∷ []); count = o.count + 1 }) is_old
+    (ap (λ (ks : List (List ℕ)). seen ks (count + 1) layout)
     (ap (λ (ns : List Installation). map members_of ns) is ∙ latest-more kept one ∙ ap (λ (m : List ℕ). latest (map members_of kept ++ m ∷ [])) is_one))
 
 pub still-kept : (P : Installation → Type 0) (kept new : List Installation) (one : Installation) (count : ℕ)
@@ -74,16 +73,3 @@ still-kept P kept new one count is upto all last =
       omega (arith, more, left, size, upto),
       subst (λ (ns : List Installation). All P ns) (sym is) (All-drop P n (kept ++ one ∷ []) (All-push P kept one all last)),
     )
-
--- the same of equal clusters and an equal window
-pub told-by : (own layout : LayoutView) (w v : WindowView) (named : List ℕ) (a b : Bool) (c : ℕ) → own.cluster_of ≡ layout.cluster_of → w ≡ v
-    → (a && use_each own w named c) ≡ (b && use_each own w named c) → (a && use_each layout v named c) ≡ (b && use_each layout v named c)
-told-by own layout w v named a b c same is told =
-    subst (λ (u : Bool). (a && u) ≡ (b && u))
-    (ap (λ (t : List ℕ). use_each (record own { cluster_of = t }) w named c) same ∙ ap (λ (x : WindowView). use_each layout x named c) is) told
-
-pub used-by : (own layout : LayoutView) (w v : WindowView) (number c : ℕ) → own.cluster_of ≡ layout.cluster_of → w ≡ v
-    → is_among (used own (members_at w number)) c ≡ is_among (used layout (members_at v number)) c
-used-by own layout w v number c same is =
-    ap (λ (t : List ℕ). is_among (used (record own { cluster_of = t }) (members_at w number)) c) same
-    ∙ ap (λ (x : WindowView). is_among (used layout (members_at x number)) c) is

@@ -3,11 +3,13 @@ use Rattle.std.specs.Prelude.{ℕ, ◌-◌, Bool, false, List, [], Option, Some,
 use Rattle.std.specs.Prelude.{unwrap_or, if◌then◌else◌}
 use Rattle.dist_cert.specs.declared.TheConstants.{REACH}
 use Rattle.dist_cert.specs.Rising.{is_among}
+use Rattle.dist_check_group.specs.Layout.{LayoutView}
 
--- the latest installations, and how many there were
+-- the latest installations, how many there were, and what their variables stand for
 pub record WindowView : Type 0 where
   pub kept : List (List ℕ)
   pub count : ℕ
+  pub layout : LayoutView
 
 -- the last ones of a list, as many as a claim may reach back
 abbrev pub latest : List (List ℕ) → List (List ℕ)

@@ -92,15 +92,14 @@ fn has_installations(window: &Window, found: &Found, claim: &ChallengeClaim<'_>)
 
 /// Whether the rules of a claim's lists hold.
 fn are_pairs_right(
-    layout: &Layout,
     window: &Window,
     group: &Group,
     claim: &ChallengeClaim<'_>,
     found: &Found,
 ) -> bool
-    requires { IsFoundFor layout.now window.now group.now.cover claim.now.variable claim.now.named.now claim.now.by.now claim.now.undecided.now found.now }
+    requires { IsFoundFor window.now.layout window.now group.now.cover claim.now.variable claim.now.named.now claim.now.by.now claim.now.undecided.now found.now }
     ensures { IsTrue result
-        ↔ ArePairsRight layout.now window.now group.now claim.now.variable claim.now.named.now claim.now.by.now claim.now.undecided.now }
+        ↔ ArePairsRight window.now.layout window.now group.now claim.now.variable claim.now.named.now claim.now.by.now claim.now.undecided.now }
 {
     let ChallengeClaim {
         variable,
@@ -114,6 +113,7 @@ fn are_pairs_right(
     if !are_rising_pairs(by) || !are_rising_pairs(undecided) {
         return false;
     }
+    let layout = window.layout();
     if is_any_undecided(layout, found, by) {
         return false;
     }
@@ -175,18 +175,18 @@ fn omits_pair(layout: &Layout, found: &Found, variable: u32) -> bool
 
 /// Of a claim on the next package the first fault by the rules of challenges, if there is one, by what is looked up for it.
 fn fault_of(
-    layout: &Layout,
     window: &Window,
     group: &Group,
     claim: &ChallengeClaim<'_>,
     found: &Found,
 ) -> Option<CertCause>
-    requires { IsFoundFor layout.now window.now group.now.cover claim.now.variable claim.now.named.now claim.now.by.now claim.now.undecided.now found.now }
-    ensures { TellsChallenge layout.now window.now group.now claim.now.variable claim.now.named.now claim.now.by.now claim.now.undecided.now result }
+    requires { IsFoundFor window.now.layout window.now group.now.cover claim.now.variable claim.now.named.now claim.now.by.now claim.now.undecided.now found.now }
+    ensures { TellsChallenge window.now.layout window.now group.now claim.now.variable claim.now.named.now claim.now.by.now claim.now.undecided.now result }
 {
-    if !are_pairs_right(layout, window, group, claim, found) {
+    if !are_pairs_right(window, group, claim, found) {
         return Some(CertCause::WrongClaim);
     }
+    let layout = window.layout();
     if is_any_covered(layout, found, claim.undecided) {
         return Some(CertCause::WrongClaim);
     }
@@ -199,16 +199,15 @@ fn fault_of(
 /// Of a claim on the next package the first fault by the rules of challenges, if there is one.
 pub fn judge_challenge(
     alloc: Global,
-    layout: &Layout,
     window: &Window,
     group: &Group,
     claim: &ChallengeClaim<'_>,
 ) -> Result<Option<CertCause>, AllocError>
     ensures { IfOk result
-        (TellsChallenge layout.now window.now group.now claim.now.variable claim.now.named.now claim.now.by.now claim.now.undecided.now) }
+        (TellsChallenge window.now.layout window.now group.now claim.now.variable claim.now.named.now claim.now.by.now claim.now.undecided.now) }
 {
-    let found = Found::new(alloc, layout, window, group, claim)?;
-    let told = fault_of(layout, window, group, claim, &found);
+    let found = Found::new(alloc, window, group, claim)?;
+    let told = fault_of(window, group, claim, &found);
     drop(found);
     Ok(told)
 }

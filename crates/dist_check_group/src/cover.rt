@@ -7,7 +7,7 @@ ghost use Rattle.dist_check_group.specs.Cover.{Gathers};
 
 use crate::layout::Layout;
 use crate::numbers::{has, narrow_in, put_in_order, thin};
-use dist_cert::{Items, Numbers};
+use dist_cert::Numbers;
 use std::alloc::{AllocError, Global};
 use std::marker::Model;
 

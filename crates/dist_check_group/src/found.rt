@@ -1,7 +1,8 @@
 //! What is looked up for a claim on challenges: once for the claim, so that each test of it is a halving. A claim that is
 //! right lists nearly all that it must, so few clusters are left to be looked for in the installations that it names. Of
-//! these the small ones come first: the smallest one tells which clusters may be used, where the group has no installation,
-//! what large ones don't use is left out by words, and a large one is walked only for clusters that are left then.
+//! these the small ones come first: the smallest one tells which clusters may be used, where the group has no installation.
+//! Where that is a large one, what other large ones don't use is left out by words. Each cluster that a test asks for is looked
+//! up in large ones, and a small one is walked where there are some.
 ghost use Rattle.std.specs.Prelude.{◌≡◌, ◌==◌, ◌&&◌, ◌↔◌, ℕ, true, Contains, IfOk, OnOk, filter, length, map, not};
 ghost use Rattle.dist_cert.specs.Rising.{AreRising, is_among};
 ghost use Rattle.dist_check_group.specs.Layout.{at_class, used};
@@ -14,6 +15,7 @@ use crate::challenge::{ChallengeClaim, leaves_out};
 use crate::cover::used_by;
 use crate::group::Group;
 use crate::held::{Asked, held_by_one};
+use crate::kept::{Kept, keep_those_of};
 use crate::layout::Layout;
 use crate::marks::Marks;
 use crate::numbers::{has, keep_common, put_in_order};
@@ -47,15 +49,14 @@ impl Found {
     /// What is looked up for a claim.
     pub(crate) fn new(
         alloc: Global,
-        layout: &Layout,
         window: &Window,
         group: &Group,
         claim: &ChallengeClaim<'_>,
     ) -> Result<Found, AllocError>
-        ensures { IfOk result (IsFoundFor layout.now window.now group.now.cover claim.now.variable claim.now.named.now claim.now.by.now claim.now.undecided.now) }
+        ensures { IfOk result (IsFoundFor window.now.layout window.now group.now.cover claim.now.variable claim.now.named.now claim.now.by.now claim.now.undecided.now) }
     {
         let named = small_first(alloc, window, claim.named)?;
-        let found = Found::by_names(alloc, layout, window, group, claim, &named);
+        let found = Found::by_names(alloc, window, group, claim, &named);
         drop(named);
         found
     }
@@ -63,18 +64,17 @@ impl Found {
     /// The same, where the installations that the claim names are given, each once.
     fn by_names(
         alloc: Global,
-        layout: &Layout,
         window: &Window,
         group: &Group,
         claim: &ChallengeClaim<'_>,
         named: &[u32],
     ) -> Result<Found, AllocError>
         requires { (q : ℕ) → Contains named.now q ↔ Contains claim.now.named.now q }
-        ensures { IfOk result (IsFoundFor layout.now window.now group.now.cover claim.now.variable claim.now.named.now claim.now.by.now claim.now.undecided.now) }
+        ensures { IfOk result (IsFoundFor window.now.layout window.now group.now.cover claim.now.variable claim.now.named.now claim.now.by.now claim.now.undecided.now) }
     {
-        let first = first_used(alloc, layout, window, group, named)?;
-        let mut found = Found::listed(alloc, layout, window, group, claim, named, &first)?;
-        match used_by_all(alloc, layout, window, &found, claim.variable, named, first) {
+        let first = first_used(alloc, window, group, named)?;
+        let mut found = Found::listed(alloc, window, group, claim, named, &first)?;
+        match used_by_all(alloc, window, &found, claim.variable, named, first) {
             Ok(used) => {
                 found.set_used(used);
                 Ok(found)
@@ -89,25 +89,25 @@ impl Found {
     /// The same without the clusters, where those that all installations use are among the first ones.
     fn listed(
         alloc: Global,
-        layout: &Layout,
         window: &Window,
         group: &Group,
         claim: &ChallengeClaim<'_>,
         named: &[u32],
         first: &[u32],
     ) -> Result<Found, AllocError>
-        ensures held { IfOk result (λ found. (v : ℕ) → may_ask layout.now found.undecided first.now v ≡ true
-            → is_marked found.held v ≡ is_held layout.now window.now group.now.cover named.now v) }
-        ensures by { IfOk result (λ found. (v : ℕ) → is_among found.by v ≡ is_among (map (at_class layout.now) claim.now.by.now) v) }
-        ensures undecided { IfOk result (λ found. (v : ℕ) → is_among found.undecided v ≡ is_among (map (at_class layout.now) claim.now.undecided.now) v) }
+        ensures held { IfOk result (λ found. (v : ℕ) → may_ask window.now.layout found.undecided first.now v ≡ true
+            → is_marked found.held v ≡ is_held window.now.layout window.now group.now.cover named.now v) }
+        ensures by { IfOk result (λ found. (v : ℕ) → is_among found.by v ≡ is_among (map (at_class window.now.layout) claim.now.by.now) v) }
+        ensures undecided { IfOk result (λ found. (v : ℕ) → is_among found.undecided v ≡ is_among (map (at_class window.now.layout) claim.now.undecided.now) v) }
     {
+        let layout = window.layout();
         let by = variables_of(alloc, layout, claim.by)?;
         let undecided = variables_of(alloc, layout, claim.undecided)?;
         let asked = Asked {
             undecided: &undecided,
             clusters: first,
         };
-        let held = held_by_one(alloc, layout, window, group, named, &asked)?;
+        let held = held_by_one(alloc, window, group, named, &asked)?;
         Ok(Found {
             used: Vec::new(alloc),
             held,
@@ -184,17 +184,20 @@ fn keep_asked(layout: &Layout, found: &Found, variable: u32, kept: &mut Vec<u32>
 /// Keeps the clusters that the installation of a number uses.
 fn keep_used(
     alloc: Global,
-    layout: &Layout,
     window: &Window,
     number: u32,
     kept: &mut Vec<u32>,
 ) -> Result<(), AllocError>
-    ensures { OnOk result (kept.new.items ≡ filter (is_among (used layout.now (members_at window.now number))) kept.old.items) }
+    ensures { OnOk result (kept.new.items ≡ filter (is_among (used window.now.layout (members_at window.now number))) kept.old.items) }
 {
     if kept.is_empty() {
         return Ok(());
     }
-    let used = used_by_one(alloc, layout, window, number)?;
+    if let Some(clusters) = window.used(number) {
+        keep_those_of(kept, clusters);
+        return Ok(());
+    }
+    let used = used_by_one(alloc, window, number)?;
     keep_common(kept, &used);
     Ok(())
 }
@@ -202,97 +205,100 @@ fn keep_used(
 /// Keeps the clusters that all installations that are named use.
 fn keep_used_by_each(
     alloc: Global,
-    layout: &Layout,
     window: &Window,
     named: &[u32],
     kept: &mut Vec<u32>,
 ) -> Result<(), AllocError>
-    ensures { OnOk result (kept.new.items ≡ filter (use_each layout.now window.now named.now) kept.old.items) }
+    ensures { OnOk result (kept.new.items ≡ filter (use_each window.now.layout window.now named.now) kept.old.items) }
 {
     for number in named {
-        keep_used(alloc, layout, window, *number, kept)?;
+        keep_used(alloc, window, *number, kept)?;
     }
     Ok(())
 }
 
 /// The clusters that the installation of a number uses.
-fn used_by_one(
-    alloc: Global,
-    layout: &Layout,
-    window: &Window,
-    number: u32,
-) -> Result<Vec<u32>, AllocError>
-    ensures value { IfOk result (λ found. (c : ℕ) → is_among found.items c ≡ is_among (used layout.now (members_at window.now number)) c) }
+fn used_by_one(alloc: Global, window: &Window, number: u32) -> Result<Vec<u32>, AllocError>
+    ensures value { IfOk result (λ found. (c : ℕ) → is_among found.items c ≡ is_among (used window.now.layout (members_at window.now number)) c) }
     ensures rising { IfOk result (λ found. AreRising found.items) }
 {
     let members = window.members(alloc, number)?;
-    used_by(alloc, layout, &members)
+    used_by(alloc, window.layout(), &members)
 }
 
-/// The same, but for some that one of the large installations that are named does not use, where it is a large one itself.
+/// Keeps the clusters that the installation of a number uses, where it tells them.
+fn narrow_by(alloc: Global, window: &Window, number: u32, kept: &mut Kept) -> Result<(), AllocError>
+    ensures { OnOk result ((c : ℕ) → (is_among kept.new c && is_among (used window.now.layout (members_at window.now number)) c)
+        ≡ (is_among kept.old c && is_among (used window.now.layout (members_at window.now number)) c)) }
+{
+    match window.used(number) {
+        Some(clusters) => {
+            kept.narrow(alloc, clusters)?;
+            Ok(())
+        }
+        None => Ok(()),
+    }
+}
+
+/// The same of all that are named.
+fn narrow_by_each(
+    alloc: Global,
+    window: &Window,
+    named: &[u32],
+    kept: &mut Kept,
+) -> Result<(), AllocError>
+    ensures { OnOk result ((c : ℕ) → (is_among kept.new c && use_each window.now.layout window.now named.now c)
+        ≡ (is_among kept.old c && use_each window.now.layout window.now named.now c)) }
+{
+    for number in named {
+        narrow_by(alloc, window, *number, kept)?;
+    }
+    Ok(())
+}
+
+/// The clusters that the installation of a number uses, but for some that one of the large installations that are named does not
+/// use, where it is a large one itself.
 fn used_by_first(
     alloc: Global,
-    layout: &Layout,
     window: &Window,
     number: u32,
     named: &[u32],
 ) -> Result<Vec<u32>, AllocError>
-    ensures value { IfOk result (λ found. (c : ℕ) → (is_among found.items c && use_each layout.now window.now named.now c)
-        ≡ (is_among (used layout.now (members_at window.now number)) c && use_each layout.now window.now named.now c)) }
+    ensures value { IfOk result (λ found. (c : ℕ) → (is_among found.items c && use_each window.now.layout window.now named.now c)
+        ≡ (is_among (used window.now.layout (members_at window.now number)) c && use_each window.now.layout window.now named.now c)) }
     ensures rising { IfOk result (λ found. AreRising found.items) }
 {
-    match window.used_by(alloc, layout, number, named)? {
-        Some(clusters) => clusters.listed(alloc),
-        None => used_by_one(alloc, layout, window, number),
-    }
+    let Some(clusters) = window.used(number) else {
+        return used_by_one(alloc, window, number);
+    };
+    let mut kept = clusters.copied(alloc)?;
+    narrow_by_each(alloc, window, named, &mut kept)?;
+    Ok(kept.listed(alloc)?)
 }
 
 /// The clusters that one of the claim's installations uses, narrowed by those of the group. Each that all use is there.
 fn first_used(
     alloc: Global,
-    layout: &Layout,
     window: &Window,
     group: &Group,
     named: &[u32],
 ) -> Result<Vec<u32>, AllocError>
-    ensures value { IfOk result (λ found. (c : ℕ) → (is_among found.items c && use_each layout.now window.now named.now c)
-        ≡ (is_among (first_used layout.now window.now group.now.cover.used named.now) c && use_each layout.now window.now named.now c)) }
+    ensures value { IfOk result (λ found. (c : ℕ) → (is_among found.items c && use_each window.now.layout window.now named.now c)
+        ≡ (is_among (first_used window.now.layout window.now group.now.cover.used named.now) c && use_each window.now.layout window.now named.now c)) }
     ensures rising { IfOk result (λ found. AreRising found.items) }
 {
     if let Some(clusters) = group.used() {
         return Ok(clusters.to_vec(alloc)?);
     }
     match named.first() {
-        Some(number) => used_by_first(alloc, layout, window, *number, named),
+        Some(number) => used_by_first(alloc, window, *number, named),
         None => Ok(Vec::new(alloc)),
     }
-}
-
-/// Leaves out clusters that one of the large installations that are named does not use. Each that all use stays.
-fn leave_out_unused(
-    alloc: Global,
-    layout: &Layout,
-    window: &Window,
-    named: &[u32],
-    clusters: Vec<u32>,
-) -> Result<Vec<u32>, AllocError>
-    requires { AreRising clusters.items }
-    ensures value { IfOk result (λ left. (c : ℕ) → (is_among left.items c && use_each layout.now window.now named.now c)
-        ≡ (is_among clusters.items c && use_each layout.now window.now named.now c)) }
-    ensures rising { IfOk result (λ left. AreRising left.items) }
-{
-    if !window.may_narrow(named) || clusters.is_empty() {
-        return Ok(clusters);
-    }
-    let mut kept = window.keep_clusters(alloc, clusters)?;
-    window.leave_out_unused(alloc, layout, named, &mut kept)?;
-    Ok(kept.listed(alloc)?)
 }
 
 /// Of the clusters that one of the claim's installations uses those that all of them use, and that a test asks for.
 fn used_by_all(
     alloc: Global,
-    layout: &Layout,
     window: &Window,
     found: &Found,
     variable: u32,
@@ -301,13 +307,12 @@ fn used_by_all(
 ) -> Result<Vec<u32>, AllocError>
     requires { AreRising first.items }
     ensures value { IfOk result (λ used. (c : ℕ) → is_among used.items c
-        ≡ ((is_among first.items c && use_each layout.now window.now named.now c) && is_asked layout.now found.now variable c)) }
+        ≡ ((is_among first.items c && use_each window.now.layout window.now named.now c) && is_asked window.now.layout found.now variable c)) }
     ensures rising { IfOk result (λ used. AreRising used.items) }
 {
     let mut used = first;
-    keep_asked(layout, found, variable, &mut used);
-    let mut used = leave_out_unused(alloc, layout, window, named, used)?;
-    keep_used_by_each(alloc, layout, window, named, &mut used)?;
+    keep_asked(window.layout(), found, variable, &mut used);
+    keep_used_by_each(alloc, window, named, &mut used)?;
     Ok(used)
 }
 

@@ -150,42 +150,38 @@ fn mark_held(
 /// The same of the installation of a number.
 fn mark_number(
     alloc: Global,
-    layout: &Layout,
     window: &Window,
     number: u32,
     limit: usize,
     wanted: &mut Kept,
     held: &mut Marks,
 ) -> Result<(), AllocError>
-    ensures told { OnOk result ((v : ℕ) → is_wanted layout.now wanted.old held.old v ≡ true
-        → is_marked held.new v ≡ (is_marked held.old v || is_among (non_packages layout.now (members_at window.now number)) v)) }
-    ensures still { OnOk result ((v : ℕ) → is_wanted layout.now wanted.old held.old v ≡ true → is_wanted layout.now wanted.new held.new v ≡ true) }
+    ensures told { OnOk result ((v : ℕ) → is_wanted window.now.layout wanted.old held.old v ≡ true
+        → is_marked held.new v ≡ (is_marked held.old v || is_among (non_packages window.now.layout (members_at window.now number)) v)) }
+    ensures still { OnOk result ((v : ℕ) → is_wanted window.now.layout wanted.old held.old v ≡ true → is_wanted window.now.layout wanted.new held.new v ≡ true) }
 {
-    match window.get(number) {
-        Some(members) => {
-            mark_held(alloc, layout, members, limit, wanted, held)?;
-            Ok(())
-        }
-        None => Ok(()),
-    }
+    let Some(members) = window.get(number) else {
+        return Ok(());
+    };
+    mark_held(alloc, window.layout(), members, limit, wanted, held)?;
+    Ok(())
 }
 
 /// Marks what the installations that are named hold besides packages.
 fn mark_named(
     alloc: Global,
-    layout: &Layout,
     window: &Window,
     named: &[u32],
     limit: usize,
     wanted: &mut Kept,
     held: &mut Marks,
 ) -> Result<(), AllocError>
-    ensures { OnOk result ((v : ℕ) → is_wanted layout.now wanted.old held.old v ≡ true
+    ensures { OnOk result ((v : ℕ) → is_wanted window.now.layout wanted.old held.old v ≡ true
         → is_marked held.new v
-        ≡ (is_marked held.old v || list_any (λ number. is_among (non_packages layout.now (members_at window.now number)) v) named.now)) }
+        ≡ (is_marked held.old v || list_any (λ number. is_among (non_packages window.now.layout (members_at window.now number)) v) named.now)) }
 {
     for number in named {
-        mark_number(alloc, layout, window, *number, limit, wanted, held)?;
+        mark_number(alloc, window, *number, limit, wanted, held)?;
     }
     Ok(())
 }
@@ -193,20 +189,20 @@ fn mark_named(
 /// What one of the claim's installations holds besides packages, of what may be asked for. Each installation is named once.
 pub(crate) fn held_by_one(
     alloc: Global,
-    layout: &Layout,
     window: &Window,
     group: &Group,
     named: &[u32],
     asked: &Asked<'_>,
 ) -> Result<Marks, AllocError>
-    ensures { IfOk result (λ held. (v : ℕ) → may_ask layout.now asked.now.undecided.now asked.now.clusters.now v ≡ true
-        → is_marked held v ≡ is_held layout.now window.now group.now.cover named.now v) }
+    ensures { IfOk result (λ held. (v : ℕ) → may_ask window.now.layout asked.now.undecided.now asked.now.clusters.now v ≡ true
+        → is_marked held v ≡ is_held window.now.layout window.now group.now.cover named.now v) }
 {
+    let layout = window.layout();
     let mut held = Marks::new(alloc, layout.bound())?;
     held.add_all(group.held())?;
     let variables = asked_variables(alloc, layout, asked)?;
     let limit = variables.len().saturating_mul(MEMBERS_PER_VARIABLE);
     let mut wanted = window.keep(alloc, variables)?;
-    mark_named(alloc, layout, window, named, limit, &mut wanted, &mut held)?;
+    mark_named(alloc, window, named, limit, &mut wanted, &mut held)?;
     Ok(held)
 }

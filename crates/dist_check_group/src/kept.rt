@@ -1,5 +1,5 @@
 //! The numbers of an installation: a list, or a row of bits where they are many.
-ghost use Rattle.std.specs.Prelude.{◌≡◌, ◌==◌, ◌&&◌, ◌+◌, ◌^◌, ◌≤◌, [], ℕ, false, true, IfOk, IsTrue, OnOk, filter, length, nat_le, not};
+ghost use Rattle.std.specs.Prelude.{◌≡◌, ◌==◌, ◌&&◌, ◌+◌, ◌^◌, ◌≤◌, [], ℕ, false, true, IfOk, OnOk, filter, length, nat_le, not};
 ghost use Rattle.std.specs.List.{list_all};
 ghost use Rattle.dist_lanes.specs.Rows.{value_at};
 ghost use Rattle.dist_cert.specs.Rising.{AreRising, is_among};
@@ -193,7 +193,7 @@ fn narrow(alloc: Global, form: &mut Form, others: &Kept) -> Result<(), AllocErro
     ensures narrowed { OnOk result (numbers_of form.new ≡ filter (is_among others.now) (numbers_of form.old)) }
 {
     match form {
-        Form::Listed(numbers) => keep_common(numbers, others),
+        Form::Listed(numbers) => keep_those_of(numbers, others),
         Form::Placed(row) => {
             if others.narrow_row(row) {
                 return Ok(());
@@ -268,10 +268,9 @@ fn true_places(alloc: Global, row: &Row) -> Result<Vec<u32>, AllocError>
     Ok(places)
 }
 
-/// Keeps those of some numbers that others have.
-fn keep_common(numbers: &mut Vec<u32>, others: &Kept)
-    requires { AreRising numbers.old.items }
-    ensures rising { AreRising numbers.new.items }
+/// Keeps those of some numbers that others have. Rising ones stay so.
+pub(crate) fn keep_those_of(numbers: &mut Vec<u32>, others: &Kept)
+    ensures rising { AreRising numbers.old.items → AreRising numbers.new.items }
     ensures kept { numbers.new.items ≡ filter (is_among others.now) numbers.old.items }
 {
     numbers.retain(|number| others.has(*number));

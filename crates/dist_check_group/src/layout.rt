@@ -1,10 +1,10 @@
 //! What the variables of a certificate stand for.
-ghost use Rattle.std.specs.Prelude.{◌≡◌, [], true, IfOk, length};
+ghost use Rattle.std.specs.Prelude.{◌≡◌, [], length};
 ghost use Rattle.dist_check_group.specs.Layout.{LayoutView, at_class, classes_of, cluster_of, is_package};
 
 use dist_base::{Flat, MAX_VARIABLES};
 use dist_cert::CertKind;
-use std::alloc::{AllocError, Global};
+use std::alloc::Global;
 use std::marker::Model;
 
 /// The kind of a certificate, the cluster of each variable, and the variables of each cluster's classes.
@@ -54,30 +54,12 @@ impl Layout {
         self.kind
     }
 
-    /// The clusters of the variables alone.
-    pub(crate) fn without_classes(&self, alloc: Global) -> Result<Layout, AllocError>
-        ensures { IfOk result (λ layout. layout.cluster_of ≡ self.now.cluster_of) }
-    {
-        Ok(Layout {
-            kind: self.kind,
-            clusters: self.clusters.to_vec(alloc)?,
-            classes: Flat::new(alloc),
-        })
-    }
-
     /// The greatest cluster of a variable.
     pub(crate) fn last_cluster(&self) -> u32 {
         match self.clusters.iter().max() {
             Some(cluster) => *cluster,
             None => 0,
         }
-    }
-
-    /// Whether the variables have the same clusters in another one.
-    pub(crate) fn has_clusters_of(&self, other: &Layout) -> bool
-        ensures { result ≡ true → self.now.cluster_of ≡ other.now.cluster_of }
-    {
-        self.clusters == other.clusters
     }
 
     /// How many clusters there are.

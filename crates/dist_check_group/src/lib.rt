@@ -5,10 +5,9 @@
 //! claim's installations have, which clusters they use, and what one of them holds. Of what they share only that is looked for
 //! which the claim does not list. A claim on challenges costs its lists, the classes of the clusters that the group's
 //! installations use, or else the smallest one that it names, and a bit for each variable. Where that one is a row too, it costs
-//! the classes of those clusters alone that all rows use, and one comparison of the clusters of all variables. Each one that it
-//! names costs its members, or a word for 64 variables and 64 clusters where it is a row. There is no other walk over all
-//! clusters, variables or packages, but for a cluster that is left: it is looked for among all members, in the small
-//! installations first.
+//! the classes of those clusters alone that all rows use. Each one that it names costs its members, or a word for 64 variables
+//! and 64 clusters where it is a row. There is no other walk over all clusters, variables or packages: a cluster that is left is
+//! looked for among the members of small installations first, and among the clusters of large ones.
 #![tactic(auto)]
 
 mod challenge;

@@ -1,10 +1,9 @@
 //! The latest installations, by their numbers.
-ghost use Rattle.std.specs.Prelude.{◌≡◌, ◌&&◌, ◌+◌, ◌-◌, ◌<◌, ◌≤◌, ◌^◌, [], ◌∷◌, ◌++◌, ℕ, All, IfOk, IfSome, None, OnErr, OnOk, drop, if◌then◌else◌, length, map, nat_le, slice_get};
+ghost use Rattle.std.specs.Prelude.{◌≡◌, ◌+◌, ◌-◌, ◌<◌, ◌≤◌, ◌^◌, [], ◌∷◌, ◌++◌, ℕ, All, IfOk, IfSome, None, OnErr, OnOk, drop, if◌then◌else◌, length, map, nat_le, slice_get};
 ghost use Rattle.std.specs.Option.{option_copied};
 ghost use Rattle.dist_cert.specs.declared.TheConstants.{REACH};
 ghost use Rattle.dist_cert.specs.Rising.{AreRising, is_among};
 ghost use Rattle.dist_check_group.specs.Layout.{used};
-ghost use Rattle.dist_check_group.specs.Challenge.{use_each};
 ghost use Rattle.dist_check_group.specs.Window.{WindowView, has_member, kept_at, latest, members_at};
 ghost use Rattle.dist_check_group.specs.WindowPrivate.{TellsUsed, members_of};
 
@@ -27,13 +26,14 @@ pub(crate) struct Installation {
 #[derive(Drop)]
 pub struct Window {
     kept: VecDeque<Installation>,
-    /// The clusters of which large ones tell those that they use.
-    layout: Layout,
-    clusters: u32,
-    /// The last variable.
-    last: u32,
     /// How many installations there were.
     count: u64,
+    /// What the variables stand for.
+    layout: Layout,
+    /// The last variable.
+    last: u32,
+    /// The last cluster of one.
+    last_cluster: u32,
 }
 
 impl Model for Window {
@@ -44,52 +44,41 @@ impl Model for Window {
 
     ghost Value = { WindowView };
 
-    ghost view = { λ w. record { kept = map members_of w.kept.items; count = w.count } };
+    ghost view = { λ w. record { kept = map members_of w.kept.items; count = w.count; layout = w.layout } };
 
     ghost invariant = { λ w. (length w.kept.items ≤ w.count) × (length w.kept.items ≤ REACH) × All (TellsUsed w.layout) w.kept.items };
 }
 
 impl Window {
     /// No installations, of variables up to a last one.
-    pub fn new(alloc: Global, last: u32) -> Window
-        ensures { result ≡ record { kept = []; count = 0 } }
+    pub fn new(alloc: Global, last: u32, layout: Layout) -> Window
+        ensures { result ≡ record { kept = []; count = 0; layout = layout } }
     {
+        let last_cluster = layout.last_cluster();
         Window {
             kept: VecDeque::new(alloc),
-            layout: Layout::present(alloc),
-            clusters: 0,
-            last,
             count: 0,
+            layout,
+            last,
+            last_cluster,
         }
     }
 
-    /// Takes the clusters of a layout before the first installation comes.
-    fn begin(&mut self, alloc: Global, layout: &Layout) -> Result<(), AllocError>
-        ensures { self.new ≡ self.old }
+    /// What the variables stand for.
+    pub fn layout(&self) -> &Layout
+        ensures { result.now ≡ self.now.layout }
     {
-        if !self.kept.is_empty() {
-            return Ok(());
-        }
-        let layout = layout.without_classes(alloc)?;
-        self.clusters = layout.last_cluster();
-        self.layout = layout;
-        Ok(())
+        &self.layout
     }
 
     /// Adds an installation as the latest one.
-    pub fn add(
-        &mut self,
-        alloc: Global,
-        layout: &Layout,
-        members: Numbers,
-    ) -> Result<(), AllocError>
+    pub fn add(&mut self, alloc: Global, members: Numbers) -> Result<(), AllocError>
         requires count { self.old.count + 1 < 2 ^ 64 }
         requires rising { AreRising members }
-        ensures { OnOk result (self.new ≡ record { kept = latest (self.old.kept ++ members ∷ []); count = self.old.count + 1 }) }
+        ensures { OnOk result (self.new ≡ record self.old { kept = latest (self.old.kept ++ members ∷ []); count = self.old.count + 1 }) }
     {
-        self.begin(alloc, layout)?;
         let members = Kept::new(alloc, members.into_vec(), self.last)?;
-        let installation = with_used(alloc, &self.layout, self.clusters, members)?;
+        let installation = with_used(alloc, &self.layout, self.last_cluster, members)?;
         keep(&mut self.kept, installation)?;
         self.count += 1;
         Ok(())
@@ -124,14 +113,6 @@ impl Window {
         Kept::new(alloc, numbers, self.last)
     }
 
-    /// The same of numbers of clusters.
-    pub(crate) fn keep_clusters(&self, alloc: Global, numbers: Vec<u32>) -> Result<Kept, AllocError>
-        requires { AreRising numbers.items }
-        ensures { IfOk result (λ kept. kept ≡ numbers.items) }
-    {
-        Kept::new(alloc, numbers, self.clusters)
-    }
-
     /// How many members it has.
     pub(crate) fn size(&self, number: u32) -> usize {
         match self.get(number) {
@@ -150,61 +131,14 @@ impl Window {
         }
     }
 
-    /// Whether one of those that are named tells the clusters that it uses.
-    pub(crate) fn may_narrow(&self, named: &[u32]) -> bool {
-        named.iter().any(|number| self.tells_used(*number))
-    }
-
-    /// Whether the installation of a number does.
-    fn tells_used(&self, number: u32) -> bool {
-        told_by(&self.layout, &self.kept, self.count, number).is_some()
-    }
-
-    /// The clusters that the installation of a number uses, but for some that one of the large installations that are named does
-    /// not use, where it is a large one itself.
-    pub(crate) fn used_by(
-        &self,
-        alloc: Global,
-        layout: &Layout,
-        number: u32,
-        named: &[u32],
-    ) -> Result<Option<Kept>, AllocError>
-        ensures { IfOk result (λ found. IfSome found (λ clusters. (c : ℕ) → (is_among clusters c && use_each layout.now self.now named.now c)
-            ≡ (is_among (used layout.now (members_at self.now number)) c && use_each layout.now self.now named.now c))) }
+    /// The clusters that the installation of a number uses, where it tells them.
+    pub(crate) fn used(&self, number: u32) -> Option<&Kept>
+        ensures { IfSome result (λ clusters. (c : ℕ) → is_among clusters.now c ≡ is_among (used self.now.layout (members_at self.now number)) c) }
     {
-        let Some(told) = told_by(&self.layout, &self.kept, self.count, number) else {
-            return Ok(None);
-        };
-        if !self.layout.has_clusters_of(layout) {
-            return Ok(None);
+        match find(&self.kept, self.count, number) {
+            Some(installation) => clusters_of(&self.layout, installation),
+            None => None,
         }
-        let mut clusters = told.copied(alloc)?;
-        narrow_by_each(
-            alloc,
-            &self.layout,
-            &self.kept,
-            self.count,
-            named,
-            &mut clusters,
-        )?;
-        Ok(Some(clusters))
-    }
-
-    /// Leaves out clusters that one of the large installations that are named does not use. Each that all use stays.
-    pub(crate) fn leave_out_unused(
-        &self,
-        alloc: Global,
-        layout: &Layout,
-        named: &[u32],
-        kept: &mut Kept,
-    ) -> Result<(), AllocError>
-        ensures { OnOk result ((c : ℕ) → (is_among kept.new c && use_each layout.now self.now named.now c) ≡ (is_among kept.old c && use_each layout.now self.now named.now c)) }
-    {
-        if !self.layout.has_clusters_of(layout) {
-            return Ok(());
-        }
-        narrow_by_each(alloc, &self.layout, &self.kept, self.count, named, kept)?;
-        Ok(())
     }
 }
 
@@ -234,11 +168,11 @@ fn find(installations: &VecDeque<Installation>, count: u64, number: u32) -> Opti
     installations.get((u64::from(number) - forgotten - 1) as usize)
 }
 
-/// An installation, with the clusters that it uses where a claim may ask for them and its members are many.
+/// An installation, with the clusters that it uses, up to a last one, where a claim may ask for them and its members are many.
 fn with_used(
     alloc: Global,
     layout: &Layout,
-    clusters: u32,
+    last: u32,
     members: Kept,
 ) -> Result<Installation, AllocError>
     ensures members { IfOk result (λ installation. members_of installation ≡ members) }
@@ -250,46 +184,23 @@ fn with_used(
             used: None,
         });
     }
-    let used = used_of(alloc, layout, clusters, &members)?;
+    let used = used_of(alloc, layout, last, &members)?;
     Ok(Installation {
         members,
         used: Some(used),
     })
 }
 
-/// The clusters that the members of an installation are of.
-fn used_of(
-    alloc: Global,
-    layout: &Layout,
-    clusters: u32,
-    members: &Kept,
-) -> Result<Kept, AllocError>
+/// The clusters that the members of an installation are of, up to a last one.
+fn used_of(alloc: Global, layout: &Layout, last: u32, members: &Kept) -> Result<Kept, AllocError>
     ensures { IfOk result (λ found. (c : ℕ) → is_among found c ≡ is_among (used layout.now members.now) c) }
 {
     let listed = members.listed(alloc)?;
     let found = used_by(alloc, layout, &listed)?;
-    Ok(Kept::new(alloc, found, clusters)?)
+    Ok(Kept::new(alloc, found, last)?)
 }
 
-/// The clusters that the installation of a number uses, where it tells them.
-fn told_by<'a>(
-    layout: &Layout,
-    installations: &'a VecDeque<Installation>,
-    count: u64,
-    number: u32,
-) -> Option<&'a Kept>
-    requires count { length installations.now.items ≤ count }
-    requires used { All (TellsUsed layout.now) installations.now.items }
-    ensures { IfSome result (λ clusters. (c : ℕ) → is_among clusters.now c
-        ≡ is_among (used layout.now (members_at (record { kept = map members_of installations.now.items; count = count }) number)) c) }
-{
-    match find(installations, count, number) {
-        Some(installation) => clusters_of(layout, installation),
-        None => None,
-    }
-}
-
-/// The same of an installation.
+/// The clusters that an installation uses, where it tells them.
 fn clusters_of<'a>(layout: &Layout, installation: &'a Installation) -> Option<&'a Kept>
     requires { TellsUsed layout.now installation.now }
     ensures { IfSome result (λ clusters. (c : ℕ) → is_among clusters.now c ≡ is_among (used layout.now (members_of installation.now)) c) }
@@ -298,51 +209,4 @@ fn clusters_of<'a>(layout: &Layout, installation: &'a Installation) -> Option<&'
         Some(clusters) => Some(clusters),
         None => None,
     }
-}
-
-/// Keeps the clusters that the installation of a number uses, where it tells them.
-fn narrow_by(
-    alloc: Global,
-    layout: &Layout,
-    installations: &VecDeque<Installation>,
-    count: u64,
-    number: u32,
-    kept: &mut Kept,
-) -> Result<(), AllocError>
-    requires count { length installations.now.items ≤ count }
-    requires used { All (TellsUsed layout.now) installations.now.items }
-    ensures { OnOk result ((c : ℕ) → (is_among kept.new c
-        && is_among (used layout.now (members_at (record { kept = map members_of installations.now.items; count = count }) number)) c)
-        ≡ (is_among kept.old c
-        && is_among (used layout.now (members_at (record { kept = map members_of installations.now.items; count = count }) number)) c)) }
-{
-    match told_by(layout, installations, count, number) {
-        Some(clusters) => {
-            kept.narrow(alloc, clusters)?;
-            Ok(())
-        }
-        None => Ok(()),
-    }
-}
-
-/// The same of all that are named.
-fn narrow_by_each(
-    alloc: Global,
-    layout: &Layout,
-    installations: &VecDeque<Installation>,
-    count: u64,
-    named: &[u32],
-    kept: &mut Kept,
-) -> Result<(), AllocError>
-    requires count { length installations.now.items ≤ count }
-    requires used { All (TellsUsed layout.now) installations.now.items }
-    ensures { OnOk result ((c : ℕ) → (is_among kept.new c
-        && use_each layout.now (record { kept = map members_of installations.now.items; count = count }) named.now c)
-        ≡ (is_among kept.old c
-        && use_each layout.now (record { kept = map members_of installations.now.items; count = count }) named.now c)) }
-{
-    for number in named {
-        narrow_by(alloc, layout, installations, count, *number, kept)?;
-    }
-    Ok(())
 }

@@ -16,8 +16,8 @@ use Rattle.dist_check_group.specs.Closed.{Closes}
 use Rattle.dist_check_group.specs.Group.{GroupView, Grows, TellsRules, empty_group}
 use Rattle.dist_check_group.specs.Challenge.{TellsChallenge}
 
--- The number of packages, what the variables stand for, the installations and the group, the package of the next claim,
--- and the claims.
+-- The number of packages, what the variables stand for, which the window says too, the installations and the group, the
+-- package of the next claim, and the claims.
 pub record StateView : Type 0 where
   pub packages : ℕ
   pub layout : LayoutView
@@ -118,7 +118,7 @@ pub record Answers (s : StateView) (question : List Word) (refuted : Bool) (t : 
 -- an installation is the latest one, and adds to the group
 pub record Installs (s : StateView) (variables : List ℕ) (t : StateView) : Type 0 where
   pub rest : t ≡ record s {
-    window = record { kept = latest (s.window.kept ++ variables ∷ []); count = s.window.count + 1 };
+    window = record s.window { kept = latest (s.window.kept ++ variables ∷ []); count = s.window.count + 1 };
     group = t.group;
   }
   pub grows : Grows s.layout.kind s.layout (present s.layout.kind s.next) variables s.group t.group

@@ -1,5 +1,5 @@
 //! The first fault of a claim or of the end.
-ghost use Rattle.std.specs.Prelude.{◌≡◌, ◌≤◌};
+ghost use Rattle.std.specs.Prelude.{◌≡◌};
 ghost use Rattle.dist_check_state.specs.State.{TellsClaim, TellsEnd, is_next};
 
 use dist_cert::CertCause;

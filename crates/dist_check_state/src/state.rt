@@ -12,7 +12,7 @@ ghost use Rattle.dist_check_state.specs.State.{Allows, Answers, Installs, Tells,
 use crate::from_zero::{from_zero, pairs_from_zero};
 use crate::judging::{is_next, judge_claim, judge_end};
 use crate::kinds::{is_challenged, is_outdated, is_strong, present};
-use dist_cert::{CertCause, CertRecord, Claim, Claims, Literals, Numbers};
+use dist_cert::{CertCause, CertKind, CertRecord, Claim, Claims, Literals, Numbers};
 use dist_check_group::{
     ChallengeClaim, Group, Layout, StrongClaim, Window, judge_challenge, judge_rules,
 };
@@ -23,7 +23,6 @@ use std::marker::Model;
 #[derive(Drop)]
 pub struct State {
     packages: u32,
-    layout: Layout,
     window: Window,
     /// The package of the next claim.
     next: u32,
@@ -40,7 +39,7 @@ impl Model for State {
 
     ghost view = { λ s. record {
       packages = s.packages;
-      layout = s.layout;
+      layout = s.window.layout;
       window = s.window;
       next = s.next;
       group = s.group;
@@ -57,7 +56,7 @@ impl State {
         ensures { result ≡ record {
           packages = packages;
           layout = layout;
-          window = record { kept = []; count = 0 };
+          window = record { kept = []; count = 0; layout = layout };
           next = 1;
           group = empty_group;
           claims = [];
@@ -65,8 +64,7 @@ impl State {
     {
         State {
             packages,
-            layout,
-            window: Window::new(alloc, variables),
+            window: Window::new(alloc, variables, layout),
             next: 1,
             group: Group::new(alloc),
             claims: Claims::new(alloc),
@@ -119,11 +117,18 @@ impl State {
         }
     }
 
+    /// The kind of the certificate.
+    fn kind(&self) -> CertKind
+        ensures { result ≡ self.now.layout.kind }
+    {
+        self.window.layout().kind()
+    }
+
     /// The variable of the package of the next claim.
     fn next_variable(&self) -> u32
         ensures { result ≡ present self.now.layout.kind self.now.next }
     {
-        present(self.layout.kind(), self.next)
+        present(self.kind(), self.next)
     }
 
     /// Of a claim on a package, which holds or does not.
@@ -137,21 +142,21 @@ impl State {
     fn holds_uninstallable(&self) -> bool
         ensures { result ≡ holds_uninstallable self.now }
     {
-        !is_outdated(self.layout.kind()) && self.group.is_refuted()
+        !is_outdated(self.kind()) && self.group.is_refuted()
     }
 
     /// Whether a claim that the package is outdated holds.
     fn holds_outdated(&self) -> bool
         ensures { result ≡ holds_outdated self.now }
     {
-        is_outdated(self.layout.kind()) && self.group.is_refuted()
+        is_outdated(self.kind()) && self.group.is_refuted()
     }
 
     /// Whether the installation of a number has a variable, and claims are of kind outdated.
     fn holds_alive(&self, variable: u32, number: u32) -> bool
         ensures { result ≡ (is_outdated self.now.layout.kind && has_member (kept_at self.now.window number) variable) }
     {
-        is_outdated(self.layout.kind()) && self.window.has(number, variable)
+        is_outdated(self.kind()) && self.window.has(number, variable)
     }
 
     /// Of a claim that a package is not outdated.
@@ -176,7 +181,7 @@ impl State {
         if !is_next(self.next, self.packages, claim.package) {
             return Ok(Some(CertCause::OutOfOrder));
         }
-        if !is_strong(self.layout.kind()) {
+        if !is_strong(self.kind()) {
             return Ok(Some(CertCause::WrongClaim));
         }
         judge_rules(alloc, &self.window, &self.group, self.packages, claim)
@@ -197,7 +202,7 @@ impl State {
         if !is_next(self.next, self.packages, package) {
             return Ok(Some(CertCause::OutOfOrder));
         }
-        if !is_challenged(self.layout.kind()) {
+        if !is_challenged(self.kind()) {
             return Ok(Some(CertCause::WrongClaim));
         }
         let claim = ChallengeClaim {
@@ -206,7 +211,7 @@ impl State {
             by,
             undecided,
         };
-        judge_challenge(alloc, &self.layout, &self.window, &self.group, &claim)
+        judge_challenge(alloc, &self.window, &self.group, &claim)
     }
 
     /// Notes a claim or the end, which has no fault. Other lines change nothing.
@@ -241,18 +246,19 @@ impl State {
     pub fn add_refuted(&mut self, question: Literals) -> Result<(), AllocError>
         ensures { OnOk result (Answers self.old question true self.new) }
     {
+        let kind = self.kind();
         let variable = self.next_variable();
-        self.group
-            .add_refuted(self.layout.kind(), variable, question.as_slice())
+        self.group.add_refuted(kind, variable, question.as_slice())
     }
 
     /// Notes that a question is left undecided.
     pub fn add_undecided(&mut self, question: Literals) -> Result<(), AllocError>
         ensures { OnOk result (Answers self.old question false self.new) }
     {
+        let kind = self.kind();
         let variable = self.next_variable();
         self.group
-            .add_undecided(self.layout.kind(), variable, question.as_slice())
+            .add_undecided(kind, variable, question.as_slice())
     }
 
     /// Notes an installation.
@@ -262,9 +268,10 @@ impl State {
         ensures { OnOk result (Installs self.old variables self.new) }
     {
         let variable = self.next_variable();
+        let layout = self.window.layout();
         self.group
-            .add_installation(alloc, &self.layout, variable, variables.as_slice())?;
-        self.window.add(alloc, &self.layout, variables)
+            .add_installation(alloc, layout, variable, variables.as_slice())?;
+        self.window.add(alloc, variables)
     }
 
     /// Ends the group with a claim on the next package.

@@ -53,7 +53,7 @@ impl Checker {
         ensures within { IfOk result (λ checker. IsWithinLineLimits checker.log) }
         ensures value { IfOk result (λ checker. checker ≡ record { limit = limit; future = future; log = log; question = None }) }
     {
-        let _within = log.len();
+        log.keeps_invariant();
         match Tools::new(alloc, log.variables()) {
             Ok(tools) => Ok(Checker {
                 limit,
@@ -73,7 +73,7 @@ impl Checker {
     pub(crate) fn keep_limits(&self)
         ensures { IsWithinLineLimits self.now.log }
     {
-        let _within = self.log.len();
+        self.log.keeps_invariant();
     }
 
     /// The first fault of a line, if there is one. Of claims and of the end the kind of file tells.
@@ -132,7 +132,7 @@ impl Checker {
         ensures ok { OnOk result (self.new ≡ record self.old { log = record self.old.log { clauses = self.old.log.clauses ++ clause_of literals.now ∷ [] } }) }
         ensures err { IfErr result (IsAppendCause self.old.log (clause_of literals.now)) }
     {
-        let _within = self.log.inputs();
+        self.log.keeps_invariant();
         self.tools.append(&mut self.log, literals)
     }
 

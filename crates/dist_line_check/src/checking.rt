@@ -1,6 +1,5 @@
 //! One pass over the lines of a file behind its first one.
-ghost use Rattle.std.specs.Prelude.{◌≡◌, List, None, OnOk, Option, ℕ, IfErr};
-ghost use Rattle.dist_outside.specs.declared.limits.Limits.{Limits};
+ghost use Rattle.std.specs.Prelude.{IfErr};
 ghost use Rattle.dist_outside.specs.DeskView.{OnlyReads};
 ghost use Rattle.dist_outside.specs.Files.{IsReading};
 ghost use Rattle.dist_cert.specs.Reading.{text_left};
@@ -9,7 +8,7 @@ ghost use Rattle.dist_line_check.specs.Checked.{AnswersSome, AnswersTold, IsBegu
 
 use crate::kind::Kind;
 use crate::lines::{Kept, take_line};
-use dist_cert::{ReadCertError, Reader, forms_are_clear};
+use dist_cert::{ReadCertError, Reader};
 use dist_outside::Desk;
 use std::alloc::Global;
 
@@ -30,7 +29,7 @@ fn take_lines<D: Desk, K: Kind>(
 {
     kind.laws();
     'lines: loop {
-        let _within = reader.lines();
+        reader.keeps_invariant();
         let Some(step) = reader.next(desk)? else {
             return Ok(());
         };

@@ -32,7 +32,7 @@ fn are_true(log: &Log, behind: u32, upto: u32, trues: &VariableSet) -> bool
         → IsTrue result ↔ ((number : ℕ) → behind < number → number ≤ upto
         → MakesTrue value (clause_at log.now.clauses number)) }
 {
-    let _within = log.inputs();
+    log.keeps_invariant();
     for before in behind..upto {
         if !makes_true(log.clause(before + 1), trues) {
             return false;

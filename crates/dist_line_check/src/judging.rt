@@ -1,5 +1,5 @@
 //! The first fault of a line, by what is kept of the lines before it.
-ghost use Rattle.std.specs.Prelude.{◌≡◌, ◌+◌, ◌≤◌, IfOk, Some, length};
+ghost use Rattle.std.specs.Prelude.{◌≡◌, ◌≤◌, IfOk, Some, length};
 ghost use Rattle.std.specs.Option.{ForSome};
 ghost use Rattle.dist_cert.specs.Form.{AreFromOne, AreLiterals};
 ghost use Rattle.dist_line_check.specs.Since.{AreLiteralsOver};

@@ -70,7 +70,7 @@ impl Tools {
         ensures answer { IfOk result (λ yes. IsTrue yes ↔ Follows log.now.clauses (clause_of literals.now) hints.now) }
         ensures ready { self.new ≡ self.old }
     {
-        let _stated = log.variables();
+        log.keeps_invariant();
         write_clause(&mut self.clause, literals)?;
         self.scratch.make_room(self.alloc, log.len())?;
         Ok(log.follows(&mut self.scratch, &self.clause, hints))
@@ -88,7 +88,7 @@ impl Tools {
         ensures answer { IfOk result (λ yes. IsTrue yes ↔ Follows log.now.clauses (map negation (clause_of assumptions.now)) hints.now) }
         ensures ready { self.new ≡ self.old }
     {
-        let _stated = log.variables();
+        log.keeps_invariant();
         write_negated(&mut self.clause, assumptions)?;
         self.scratch.make_room(self.alloc, log.len())?;
         Ok(log.follows(&mut self.scratch, &self.clause, hints))
@@ -108,7 +108,7 @@ impl Tools {
         ensures same { log.new ≡ log.old }
         ensures ready { self.new ≡ self.old }
     {
-        let _stated = log.variables();
+        log.keeps_invariant();
         write_clause(&mut self.clause, assumptions)?;
         Ok(log.are_new(&mut self.scratch, &self.clause, last))
     }
@@ -152,7 +152,7 @@ impl Tools {
         ensures stays { OnErr result (log.new ≡ log.old) }
         ensures ready { self.new ≡ self.old }
     {
-        let _stated = log.variables();
+        log.keeps_invariant();
         write_clause(&mut self.clause, literals)?;
         match log.append(&self.clause) {
             Ok(_) => Ok(()),

@@ -12,7 +12,6 @@ use std::alloc::{AllocError, Global};
 /// Adds an installation to a group of the package of a variable, and to the latest ones.
 fn install(
     alloc: Global,
-    layout: &Layout,
     window: &mut Window,
     group: &mut Group,
     variable: u32,
@@ -24,23 +23,18 @@ fn install(
     if !is_rising(members) {
         return Ok(());
     }
-    group.add_installation(alloc, layout, variable, members)?;
-    window.add(alloc, layout, Items::from_vec(members.to_vec(alloc)?))
+    group.add_installation(alloc, window.layout(), variable, members)?;
+    window.add(alloc, Items::from_vec(members.to_vec(alloc)?))
 }
 
 /// Of two installations of the first of three packages the second one has no third package. The second package is refuted,
 /// and the third one left undecided.
-fn fill(
-    alloc: Global,
-    layout: &Layout,
-    window: &mut Window,
-    group: &mut Group,
-) -> Result<(), AllocError>
+fn fill(alloc: Global, window: &mut Window, group: &mut Group) -> Result<(), AllocError>
     requires { window.old.count < 90 }
 {
-    install(alloc, layout, window, group, 1, &[1, 2, 3])?;
+    install(alloc, window, group, 1, &[1, 2, 3])?;
     group.clear();
-    install(alloc, layout, window, group, 1, &[1, 2])?;
+    install(alloc, window, group, 1, &[1, 2])?;
     group.add_refuted(CertKind::Strong, 1, &[(1, true), (2, false)])?;
     group.add_undecided(CertKind::Strong, 1, &[(1, true), (3, false)])
 }
@@ -54,10 +48,7 @@ fn judge_filled(
 ) -> Result<Option<CertCause>, AllocError>
     requires { window.old.count < 90 }
 {
-    let layout = Layout::present(alloc);
-    let filled = fill(alloc, &layout, window, group);
-    drop(layout);
-    filled?;
+    fill(alloc, window, group)?;
     judge_rules(alloc, window, group, 3, claim)
 }
 
@@ -69,7 +60,7 @@ fn judged(
     on: &[u32],
     undecided: &[u32],
 ) -> Result<Option<CertCause>, AllocError> {
-    let mut window = Window::new(alloc, last);
+    let mut window = Window::new(alloc, last, Layout::present(alloc));
     let mut group = Group::new(alloc);
     let claim = StrongClaim {
         package: 1,
@@ -152,18 +143,17 @@ fn two_clusters(alloc: Global) -> Result<Layout, AllocError> {
 /// What is said of a claim on challenges of the first package, once the second cluster's class was refuted.
 fn judge_refuted(
     alloc: Global,
-    layout: &Layout,
     window: &mut Window,
     group: &mut Group,
     claim: &ChallengeClaim<'_>,
 ) -> Result<Option<CertCause>, AllocError>
     requires { window.old.count < 90 }
 {
-    install(alloc, layout, window, group, 2, &[2, 5])?;
+    install(alloc, window, group, 2, &[2, 5])?;
     group.clear();
-    install(alloc, layout, window, group, 2, &[1, 2, 3])?;
+    install(alloc, window, group, 2, &[1, 2, 3])?;
     group.add_refuted(CertKind::Challenged, 2, &[(2, true), (5, true)])?;
-    judge_challenge(alloc, layout, window, group, claim)
+    judge_challenge(alloc, window, group, claim)
 }
 
 /// The same of a new window of variables up to a last one, and a new group.
@@ -173,8 +163,7 @@ fn challenged(
     named: &[u32],
     by: &[(u32, u32)],
 ) -> Result<Option<CertCause>, AllocError> {
-    let layout = two_clusters(alloc)?;
-    let mut window = Window::new(alloc, last);
+    let mut window = Window::new(alloc, last, two_clusters(alloc)?);
     let mut group = Group::new(alloc);
     let claim = ChallengeClaim {
         variable: 2,
@@ -182,8 +171,7 @@ fn challenged(
         by,
         undecided: &[],
     };
-    let verdict = judge_refuted(alloc, &layout, &mut window, &mut group, &claim);
-    drop(layout);
+    let verdict = judge_refuted(alloc, &mut window, &mut group, &claim);
     drop(window);
     drop(group);
     verdict

@@ -31,37 +31,37 @@ returns-in_err-header-clause-text g c =
     c.new-reader.ensures (nothing_read c.args.limits.now c.new-reader.result old c.new-reader.ensures)
     c.in_err-header.field-0.0 c.in_err-header.ensures.text c.in_err-header.ensures.cause)
 
-pub returns-in_err-kept-clause-text : goal.returns-in_err-kept-clause-text
-returns-in_err-kept-clause-text g c =
+pub returns-in_err-started-clause-text : goal.returns-in_err-started-clause-text
+returns-in_err-started-clause-text g c =
     let old : DeskView = g.D.Desk.view c.args.desk.now in
     let new : DeskView = g.D.Desk.view c.header.new.desk in
     let told : Option (List ℕ) = bytes_left old.files old.mode in
     by_exit (λ (r : Result Checked ReadCertError). OfText told
     (λ text. TextAnswers (λ (x : Checked). x.header) (λ (x : Checked). x.claims) c.args.repo.now c.args.limits.now text r))
-    c.from_residual-in_err-kept.result c.in_err-kept.field-0.0
-    c.from_residual-in_err-kept.ensures.1
+    c.from_residual-in_err-started.result c.in_err-started.field-0.0
+    c.from_residual-in_err-started.ensures.1
     (start-stops c.forms_are_clear.ensures c.args.repo.now c.args.limits.now c.new-reader.result told (text_left c.new-reader.result old)
     (text_left c.header.new.self new) c.in_ok-header.header c.new-reader.ensures (nothing_read c.args.limits.now c.new-reader.result old c.new-reader.ensures)
-    c.in_err-kept.field-0.0 c.in_ok-header.ensures.text c.in_err-kept.ensures)
+    c.in_err-started.field-0.0 c.in_ok-header.ensures.text c.in_err-started.ensures.answers)
 
 pub claims_behind-requires-clause-start : goal.claims_behind-requires-clause-start
 claims_behind-requires-clause-start g c =
-    starts-checked c.forms_are_clear.ensures c.models_are_healthy.ensures c.args.repo.now c.len-in_order.ensures.in_order
+    starts-checked c.forms_are_clear.ensures c.models_are_healthy.ensures c.args.repo.now c.keeps_invariant.ensures.in_order
     c.args.limits.now c.new-reader.result c.header.new.self None None None
-    c.in_ok-header.header c.in_ok-kept.kept.checker c.in_ok-kept.kept.notes c.new-reader.ensures refl refl c.in_ok-header.ensures.some
-    c.in_ok-header.ensures.gives c.in_ok-kept.ensures
+    c.in_ok-header.header c.in_ok-started.started.kept.checker c.in_ok-started.started.kept.notes c.new-reader.ensures refl refl c.in_ok-header.ensures.some
+    c.in_ok-header.ensures.gives c.in_ok-started.ensures.answers
 
 pub returns-in_err-claims-clause-text : goal.returns-in_err-claims-clause-text
 returns-in_err-claims-clause-text g c =
     let old : DeskView = g.D.Desk.view c.args.desk.now in
     let new : DeskView = g.D.Desk.view c.header.new.desk in
     let told : Option (List ℕ) = bytes_left old.files old.mode in
-    let checked = starts-checked c.forms_are_clear.ensures c.models_are_healthy.ensures c.args.repo.now c.len-in_order.ensures.in_order
+    let checked = starts-checked c.forms_are_clear.ensures c.models_are_healthy.ensures c.args.repo.now c.keeps_invariant.ensures.in_order
     c.args.limits.now c.new-reader.result c.header.new.self told
-    (text_left c.new-reader.result old) (text_left c.header.new.self new) c.in_ok-header.header c.in_ok-kept.kept.checker c.in_ok-kept.kept.notes
-    c.new-reader.ensures
+    (text_left c.new-reader.result old) (text_left c.header.new.self new) c.in_ok-header.header
+    c.in_ok-started.started.kept.checker c.in_ok-started.started.kept.notes c.new-reader.ensures
     (nothing_read c.args.limits.now c.new-reader.result old c.new-reader.ensures) c.in_ok-header.ensures.text
-    c.in_ok-header.ensures.some c.in_ok-header.ensures.gives c.in_ok-kept.ensures in
+    c.in_ok-header.ensures.some c.in_ok-header.ensures.gives c.in_ok-started.ensures.answers in
     by_exit (λ (r : Result Checked ReadCertError). OfText told
     (λ text. TextAnswers (λ (x : Checked). x.header) (λ (x : Checked). x.claims) c.args.repo.now c.args.limits.now text r))
     c.from_residual-in_err-claims.result
@@ -82,22 +82,23 @@ returns-clause-text g c =
     let old : DeskView = g.D.Desk.view c.args.desk.now in
     let new : DeskView = g.D.Desk.view c.header.new.desk in
     let told : Option (List ℕ) = bytes_left old.files old.mode in
-    let checked = starts-checked c.forms_are_clear.ensures c.models_are_healthy.ensures c.args.repo.now c.len-in_order.ensures.in_order
+    let checked = starts-checked c.forms_are_clear.ensures c.models_are_healthy.ensures c.args.repo.now c.keeps_invariant.ensures.in_order
     c.args.limits.now c.new-reader.result c.header.new.self told
-    (text_left c.new-reader.result old) (text_left c.header.new.self new) c.in_ok-header.header c.in_ok-kept.kept.checker c.in_ok-kept.kept.notes
-    c.new-reader.ensures
+    (text_left c.new-reader.result old) (text_left c.header.new.self new) c.in_ok-header.header
+    c.in_ok-started.started.kept.checker c.in_ok-started.started.kept.notes c.new-reader.ensures
     (nothing_read c.args.limits.now c.new-reader.result old c.new-reader.ensures) c.in_ok-header.ensures.text
-    c.in_ok-header.ensures.some c.in_ok-header.ensures.gives c.in_ok-kept.ensures in
+    c.in_ok-header.ensures.some c.in_ok-header.ensures.gives c.in_ok-started.ensures.answers in
     completed-alike (λ (x : Checked). x.header) (λ (x : Checked). x.claims) c.args.repo.now c.args.limits.now told c.in_ok-header.header
     c.in_ok-claims.claims
-    (record { header = c.in_ok-header.header; claims = c.in_ok-claims.claims }) refl refl (c.in_ok-claims.ensures.text told checked)
+    (record { header = c.in_ok-header.header; claims = c.in_ok-claims.claims; space = c.in_ok-started.started.space }) refl refl
+    (c.in_ok-claims.ensures.text told checked)
 
 pub returns-clause-means : goal.returns-clause-means
 returns-clause-means g c =
     let some = c.in_ok-claims.ensures.some in
-    accepted-means c.accepted_claims_hold.ensures c.args.repo.now c.args.limits.now some.0 c.in_ok-header.header c.in_ok-claims.claims c.in_ok-kept.kept.checker
-    c.in_ok-kept.kept.notes
-    c.len-in_order.ensures.in_order c.in_ok-kept.ensures some.1
+    accepted-means c.accepted_claims_hold.ensures c.args.repo.now c.args.limits.now some.0 c.in_ok-header.header c.in_ok-claims.claims
+    c.in_ok-started.started.kept.checker c.in_ok-started.started.kept.notes
+    c.keeps_invariant.ensures.in_order c.in_ok-started.ensures.answers some.1
 
 pub returns-in_err-header-clause-large : goal.returns-in_err-header-clause-large
 returns-in_err-header-clause-large g c =
@@ -106,11 +107,11 @@ returns-in_err-header-clause-large g c =
     (header-large c.args.repo.now c.args.limits.now c.new-reader.result c.header.new.self (g.D.Desk.view c.args.desk.now) (g.D.Desk.view c.header.new.desk)
     c.in_err-header.field-0.0 c.in_err-header.ensures.cause)
 
-pub returns-in_err-kept-clause-large : goal.returns-in_err-kept-clause-large
-returns-in_err-kept-clause-large g c =
-    by_exit (λ (r : Result Checked ReadCertError). IfErr r (LargeCause c.args.repo.now c.args.limits.now)) c.from_residual-in_err-kept.result
-    c.in_err-kept.field-0.0 c.from_residual-in_err-kept.ensures.1
-    (start-large c.args.repo.now c.args.limits.now c.in_ok-header.header c.in_err-kept.field-0.0 c.in_err-kept.ensures)
+pub returns-in_err-started-clause-large : goal.returns-in_err-started-clause-large
+returns-in_err-started-clause-large g c =
+    by_exit (λ (r : Result Checked ReadCertError). IfErr r (LargeCause c.args.repo.now c.args.limits.now)) c.from_residual-in_err-started.result
+    c.in_err-started.field-0.0 c.from_residual-in_err-started.ensures.1
+    (start-large c.args.repo.now c.args.limits.now c.in_ok-header.header c.in_err-started.field-0.0 c.in_err-started.ensures.answers)
 
 pub returns-in_err-claims-clause-large : goal.returns-in_err-claims-clause-large
 returns-in_err-claims-clause-large g c =
@@ -134,15 +135,15 @@ returns-in_err-header-clause-some g c =
           c.in_err-header.ensures.cause,
     )
 
-pub returns-in_err-kept-clause-some : goal.returns-in_err-kept-clause-some
-returns-in_err-kept-clause-some g c =
+pub returns-in_err-started-clause-some : goal.returns-in_err-started-clause-some
+returns-in_err-started-clause-some g c =
     let text : List ℕ = header_text c.in_ok-header.header ++ line_feed ∷ [] in
-    by_exit (Some_text c.args.repo.now c.args.limits.now) c.from_residual-in_err-kept.result c.in_err-kept.field-0.0
-    c.from_residual-in_err-kept.ensures.1 (
+    by_exit (Some_text c.args.repo.now c.args.limits.now) c.from_residual-in_err-started.result c.in_err-started.field-0.0
+    c.from_residual-in_err-started.ensures.1 (
       text,
       start-stops c.forms_are_clear.ensures c.args.repo.now c.args.limits.now c.new-reader.result (Some text) (Some text) (Some []) c.in_ok-header.header
           c.new-reader.ensures refl
-          c.in_err-kept.field-0.0 ([], refl, c.in_ok-header.ensures.some []) c.in_err-kept.ensures,
+          c.in_err-started.field-0.0 ([], refl, c.in_ok-header.ensures.some []) c.in_err-started.ensures.answers,
     )
 
 pub returns-in_err-claims-clause-some : goal.returns-in_err-claims-clause-some
@@ -157,5 +158,5 @@ returns-clause-some g c =
       some.0,
       completed-alike (λ (x : Checked). x.header) (λ (x : Checked). x.claims) c.args.repo.now c.args.limits.now (Some some.0) c.in_ok-header.header
           c.in_ok-claims.claims
-          (record { header = c.in_ok-header.header; claims = c.in_ok-claims.claims }) refl refl some.1,
+          (record { header = c.in_ok-header.header; claims = c.in_ok-claims.claims; space = c.in_ok-started.started.space }) refl refl some.1,
     )

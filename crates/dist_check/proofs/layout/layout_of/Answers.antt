@@ -19,6 +19,6 @@ returns c =
     record {
       kind = ap (λ (layout : LayoutView). layout.kind) c.new.ensures;
       lays_out = λ inputs. subst (λ (layout : LayoutView). LaysOut (later_matter s inputs) layout) (sym is_laid)
-          (lays-out s inputs c.variables-space.ensures.space (c.packages_come_first.ensures.now s c.variables-space.ensures.space)
-          (λ number. c.packages_come_first.ensures.packages s number c.variables-space.ensures.space) c.args.kind c.requires);
+          (lays-out s inputs c.keeps_invariant.ensures.space (c.packages_come_first.ensures.now s c.keeps_invariant.ensures.space)
+          (λ number. c.packages_come_first.ensures.packages s number c.keeps_invariant.ensures.space) c.args.kind c.requires);
     }

@@ -18,7 +18,7 @@ pub loop-number-preserved : goal.loop-number-preserved
 loop-number-preserved c =
     let named : List ℕ = c.args.named.now in
     let i = c.loop-number.number-index in
-    let layout = c.args.layout.now in
+    let layout = c.args.window.now.layout in
     record {
       told = λ v some.
           let holds : ℕ → Bool = λ number. is_among (non_packages layout (members_at c.args.window.now number)) v in
@@ -32,5 +32,5 @@ pub returns : goal.returns
 returns c = λ v some.
     c.loop-number.invariant.told v some
     ∙ ap (λ (ns : List ℕ). is_marked c.args.held.now v
-    || list_any (λ number. is_among (non_packages c.args.layout.now (members_at c.args.window.now number)) v) ns)
+    || list_any (λ number. is_among (non_packages c.args.window.now.layout (members_at c.args.window.now number)) v) ns)
     (take_all c.loop-number.number-index c.args.named.now c.loop-number-test.false)

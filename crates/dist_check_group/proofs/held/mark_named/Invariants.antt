@@ -9,8 +9,8 @@ use Rattle.dist_check_group.proofs.held.mark_named.Given as goal
 
 abbrev pub invariant-loop-number : goal.invariant-loop-number
 invariant-loop-number l = record {
-  told : (v : ℕ) → is_wanted l.layout l.initial.wanted l.initial.held v ≡ true → is_marked l.held v
+  told : (v : ℕ) → is_wanted l.window.layout l.initial.wanted l.initial.held v ≡ true → is_marked l.held v
       ≡ (is_marked l.initial.held v
-      || list_any (λ number. is_among (non_packages l.layout (members_at l.window number)) v) (take l.number-index l.named));
-  still : (v : ℕ) → is_wanted l.layout l.initial.wanted l.initial.held v ≡ true → is_wanted l.layout l.wanted l.held v ≡ true;
+      || list_any (λ number. is_among (non_packages l.window.layout (members_at l.window number)) v) (take l.number-index l.named));
+  still : (v : ℕ) → is_wanted l.window.layout l.initial.wanted l.initial.held v ≡ true → is_wanted l.window.layout l.wanted l.held v ≡ true;
 }

@@ -21,7 +21,7 @@ returns-in_err-step-clause-text g c = λ limits told h x.
     by_exit (λ (r : Result (Unit {0}) ReadCertError). OfText told (λ text. TextAnswers kind limits h (λ (u : Unit {0}). c.lines.kept.notes) text r))
     c.from_residual.result c.in_err-step.field-0.0 c.from_residual.ensures.1
     (next-stops kind limits told h c.lines.reader left c.lines.kept.checker c.lines.kept.notes (c.lines.invariant.told limits told h x)
-    c.laws.ensures c.lines-within.ensures.within c.next.new.self after (g.D.Desk.view c.lines.desk) (g.D.Desk.view c.next.new.desk)
+    c.laws.ensures c.keeps_invariant.ensures c.next.new.self after (g.D.Desk.view c.lines.desk) (g.D.Desk.view c.next.new.desk)
     c.in_err-step.field-0.0 c.in_err-step.ensures.text c.in_err-step.ensures.cause)
 
 pub returns-in_err-step-clause-some : goal.returns-in_err-step-clause-some
@@ -34,7 +34,7 @@ returns-in_err-step-clause-some g c = λ limits h x.
     c.from_residual.result c.in_err-step.field-0.0 c.from_residual.ensures.1 (
       text,
       next-stops kind limits (Some text) h c.lines.reader (Some some.0) c.lines.kept.checker c.lines.kept.notes
-          (at-bytes kind limits h c.lines.reader c.lines.kept.checker c.lines.kept.notes y some.0) c.laws.ensures c.lines-within.ensures.within
+          (at-bytes kind limits h c.lines.reader c.lines.kept.checker c.lines.kept.notes y some.0) c.laws.ensures c.keeps_invariant.ensures
           c.next.new.self (Some some.0) (g.D.Desk.view c.lines.desk) (g.D.Desk.view c.next.new.desk) c.in_err-step.field-0.0 (some.0, refl, some.1)
           c.in_err-step.ensures.cause,
     )
@@ -44,7 +44,7 @@ returns-in_default-clause-text g c = λ limits told h x.
     let left : Option (List ℕ) = text_left c.lines.reader (g.D.Desk.view c.lines.desk) in
     let after : Option (List ℕ) = text_left c.next.new.self (g.D.Desk.view c.next.new.desk) in
     completes (g.K.Kind.files c.args.kind.now) limits told h c.lines.reader left c.lines.kept.checker c.lines.kept.notes
-    (c.lines.invariant.told limits told h x) c.laws.ensures c.lines-within.ensures.within after
+    (c.lines.invariant.told limits told h x) c.laws.ensures c.keeps_invariant.ensures after
     (subst (λ (o : Option CertRecord). WhereTold left after (λ rest more. RecordAnswers c.lines.reader rest more (Ok o))) c.in_default.is
     c.in_ok-step.ensures.text)
 
@@ -55,7 +55,7 @@ returns-in_default-clause-some g c = λ limits h x.
     let text : List ℕ = file_text (kind.file.heading_text h) y.before ++ [] in (
       text,
       completes kind limits (Some text) h c.lines.reader (Some []) c.lines.kept.checker c.lines.kept.notes
-          (at-bytes kind limits h c.lines.reader c.lines.kept.checker c.lines.kept.notes y []) c.laws.ensures c.lines-within.ensures.within (Some [])
+          (at-bytes kind limits h c.lines.reader c.lines.kept.checker c.lines.kept.notes y []) c.laws.ensures c.keeps_invariant.ensures (Some [])
           ([], refl, subst (λ (o : Option CertRecord). RecordOfSome c.lines.reader (Ok o)) c.in_default.is c.in_ok-step.ensures.some),
     )
 
@@ -78,7 +78,7 @@ returns-in_err-take_line-clause-text g c = λ limits told h x.
     by_exit (λ (r : Result (Unit {0}) ReadCertError). OfText told (λ text. TextAnswers kind limits h (λ (u : Unit {0}). c.take_line.new.kept.notes) text r))
     c.from_residual-in_err-take_line.result c.in_err-take_line.field-0.0 c.from_residual-in_err-take_line.ensures.1
     (line-stops kind limits told h c.lines.reader left c.lines.kept.checker c.lines.kept.notes (c.lines.invariant.told limits told h x) c.laws.ensures
-    c.lines-within.ensures.within after c.in-Some.step answers c.lines-line.result
+    c.keeps_invariant.ensures after c.in-Some.step answers c.lines-line.result
     (c.lines-line.ensures.value ∙ ap (λ (v : ReaderView). v.lines) gives) c.in_err-take_line.field-0.0 c.in_err-take_line.ensures.err)
 
 pub returns-in_err-take_line-clause-some : goal.returns-in_err-take_line-clause-some
@@ -93,7 +93,7 @@ returns-in_err-take_line-clause-some g c = λ limits h x.
     c.from_residual-in_err-take_line.result c.in_err-take_line.field-0.0 c.from_residual-in_err-take_line.ensures.1 (
       text,
       line-stops kind limits (Some text) h c.lines.reader (Some rest) c.lines.kept.checker c.lines.kept.notes
-          (at-bytes kind limits h c.lines.reader c.lines.kept.checker c.lines.kept.notes y rest) c.laws.ensures c.lines-within.ensures.within (Some [])
+          (at-bytes kind limits h c.lines.reader c.lines.kept.checker c.lines.kept.notes y rest) c.laws.ensures c.keeps_invariant.ensures (Some [])
           c.in-Some.step ([], refl, some []) c.lines-line.result (c.lines-line.ensures.value ∙ ap (λ (v : ReaderView). v.lines) gives)
           c.in_err-take_line.field-0.0 c.in_err-take_line.ensures.err,
     )
@@ -124,10 +124,10 @@ lines-preserved g c =
     let some = subst (λ (o : Option CertRecord). RecordOfSome c.lines.reader (Ok o)) c.in-Some.is c.in_ok-step.ensures.some in
     record {
       some = λ limits h x. next-checked kind limits None h c.lines.reader None c.lines.kept.checker c.lines.kept.notes
-          (c.lines.invariant.some limits h x) c.laws.ensures c.lines-within.ensures.within None c.in-Some.step refl c.next.new.self old new cause some gives
+          (c.lines.invariant.some limits h x) c.laws.ensures c.keeps_invariant.ensures None c.in-Some.step refl c.next.new.self old new cause some gives
           c.take_line.new.kept.checker c.take_line.new.kept.notes c.in_ok-take_line.ensures.ok;
       told = λ limits told h x. next-checked kind limits told h c.lines.reader left c.lines.kept.checker c.lines.kept.notes
-          (c.lines.invariant.told limits told h x) c.laws.ensures c.lines-within.ensures.within after c.in-Some.step answers c.next.new.self old new cause
+          (c.lines.invariant.told limits told h x) c.laws.ensures c.keeps_invariant.ensures after c.in-Some.step answers c.next.new.self old new cause
           some gives c.take_line.new.kept.checker c.take_line.new.kept.notes c.in_ok-take_line.ensures.ok;
       reading = c.next.ensures.reading;
       only_reads = reads_on (g.D.Desk.view c.args.desk.now) old new c.lines.invariant.only_reads c.next.ensures.only_reads;

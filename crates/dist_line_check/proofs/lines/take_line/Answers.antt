@@ -1,4 +1,4 @@
-use Rattle.std.proofs.Common.{Some, None, Option, subst, sym}
+use Rattle.std.proofs.Common.{None, Option, subst, sym}
 use Rattle.dist_cert.specs.declared.faults.CertCause.{CertCause}
 use Rattle.dist_cert.specs.declared.faults.ReadCertError.TheVariants.{Work}
 use Rattle.dist_line_check.specs.Kinds.{IsNext, LineStops, TakesLine, TellsLine}

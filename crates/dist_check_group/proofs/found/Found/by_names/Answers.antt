@@ -10,8 +10,8 @@ use Rattle.dist_check_group.proofs.found.Found.by_names.Goals as goal
 
 pub returns-in-Ok : goal.returns-in-Ok
 returns-in-Ok c =
-    let layout = c.args.layout.now in
     let w = c.args.window.now in
+    let layout = w.layout in
     let cover = c.args.group.now.cover in
     let variable : ℕ = c.args.claim.now.variable in
     let named : List ℕ = c.args.claim.now.named.now in

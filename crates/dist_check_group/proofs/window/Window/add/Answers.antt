@@ -8,5 +8,5 @@ invariant_of-self-2 c = still-kept (TellsUsed c.self.inside.layout) c.self.insid
     c.self.inside.count c.in_ok-keep.ensures.ok c.self.invariant.0 c.self.invariant.2 c.in_ok-installation.ensures.used
 
 pub returns : goal.returns
-returns c = added c.self.inside.kept.items c.keep.new.kept.items c.in_ok-installation.installation c.self.inside.count c.args.members c.args.self.now
-    c.in_ok-keep.ensures.ok (c.in_ok-installation.ensures.members ∙ c.in_ok-members.ensures ∙ c.into_vec.ensures) (c.self.view_is ∙ c.in_ok-begin.ensures)
+returns c = added c.self.inside.kept.items c.keep.new.kept.items c.in_ok-installation.installation c.self.inside.count c.self.inside.layout c.args.members
+    c.args.self.now c.in_ok-keep.ensures.ok (c.in_ok-installation.ensures.members ∙ c.in_ok-members.ensures ∙ c.into_vec.ensures) c.self.view_is

@@ -5,7 +5,7 @@ use Rattle.dist_line_check.proofs.tools.Tools.are_new.Goals as goal
 
 pub write_clause-requires : goal.write_clause-requires
 write_clause-requires c = all-stated c.args.log.now.variables c.args.assumptions.now
-    (omega (arith, c.variables-stated.ensures.stated, c.variables-stated.ensures.value)) c.requires.assumptions
+    (omega (arith, c.keeps_invariant.ensures.variables)) c.requires.assumptions
 
 pub are_new-requires-clause-assumptions : goal.are_new-requires-clause-assumptions
 are_new-requires-clause-assumptions c =

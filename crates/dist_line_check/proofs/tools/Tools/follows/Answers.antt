@@ -5,7 +5,7 @@ use Rattle.dist_line_check.proofs.tools.Tools.follows.Goals as goal
 
 pub write_clause-requires : goal.write_clause-requires
 write_clause-requires c = all-stated c.args.log.now.variables c.args.literals.now
-    (omega (arith, c.variables-stated.ensures.stated, c.variables-stated.ensures.value)) c.requires.literals
+    (omega (arith, c.keeps_invariant.ensures.variables)) c.requires.literals
 
 pub follows-requires-clause-clause : goal.follows-requires-clause-clause
 follows-requires-clause-clause c =

@@ -6,7 +6,7 @@ use Rattle.dist_line_check.proofs.tools.Tools.refutes.Goals as goal
 
 pub write_negated-requires : goal.write_negated-requires
 write_negated-requires c = all-stated c.args.log.now.variables c.args.assumptions.now
-    (omega (arith, c.variables-stated.ensures.stated, c.variables-stated.ensures.value)) c.requires.assumptions
+    (omega (arith, c.keeps_invariant.ensures.variables)) c.requires.assumptions
 
 pub follows-requires-clause-clause : goal.follows-requires-clause-clause
 follows-requires-clause-clause c =
