@@ -5,7 +5,8 @@ Usage: follow-brute.py PROGRAM [ARCHIVES [SEED]]
 
 The certificate is the program's own of `challenged`, at either mode, which brute.py holds against the enumeration. What the steps of a journal
 make, which of them is refused first and why, and which packages are broken at the end, is said here by the definitions, with an archive that is a
-dictionary of names, and challenges by small_archives.py.
+dictionary of names, and challenges by small_archives.py. That each of them stays broken whatever packages of the cluster are taken away is tried on
+all installations of what is left, and so it is, without a journal, that what some version of a cluster challenges needs the cluster.
 """
 import collections
 import itertools
@@ -47,12 +48,13 @@ def stanza(draw, member, version, faulty):
 
 
 def upload(draw, packages, clusters):
-    """The name and the version of a step line, and its block."""
+    """The name and the version of a step line, and its block, which has no name twice."""
     members = [packages[k - 1] for k in draw.choice(clusters)]
     top = sc.top_of([p.text for p in members])
     version = draw.choice([b"2", b"3", b"4", top] + 2 * [sc.after(top, 1), sc.after(top, 9), b"1:0", b"1:1", b"2:0"])
     faulty = draw.choice(["name", "version", "provides", "entry", "architecture"]) if draw.often(0.12) else None
-    block = b"\n".join(stanza(draw, p, version, faulty if k == 0 else None) for k, p in enumerate(p for p in members if draw.often(0.8)))
+    stanzas = [stanza(draw, p, version, faulty if k == 0 else None) for k, p in enumerate(p for p in members if draw.often(0.8))]
+    block = b"\n".join({text.split(b"\n")[0]: text for text in stanzas}.values())
     return draw.choice(members).name if draw.often(0.95) else b"nobody", version, block
 
 
@@ -124,20 +126,44 @@ def cluster_label(archive, c):
     return small.label(archive.members(c)[0])
 
 
-def expected(packages, arch, later, kind, uploads):
-    archive, line = Archive(packages, arch, later.clusters), 1
+def broken_by(archive, later):
+    """Each cluster that has moved as a whole, its version, and a package that it breaks."""
+    for c in range(len(later.clusters)):
+        text = archive.moved(c)
+        broken = later.breaks(c, place_of(later, text)) if text is not None else 0
+        yield from ((c, text, p) for k, p in enumerate(archive.packages) if broken >> k & 1 and archive.held.get(p.name) is p)
+
+
+def what_is_left(archive, c):
+    """The packages of an archive, without some of a cluster: all of them, and at last none."""
+    names = [p.name for p in archive.members(c)]
+    for gone in itertools.product([False, True], repeat=len(names)):
+        yield [p for p in archive.held.values() if not dict(zip(names, gone)).get(p.name)]
+
+
+def is_installable(packages, arch, required, p):
+    """Whether a healthy installation that has the required names has a package itself."""
+    having = small.Present(packages, arch, False).having(next(k for k, q in enumerate(packages) if q is p))
+    return any(required <= {packages[k].name for k in small.bits(members)} for members in having)
+
+
+def challenged_by(archive, later):
+    """Each cluster, and a package that some version of it challenges."""
+    for c, places in enumerate(later.places):
+        broken = [later.breaks(c, place) for place in places]
+        yield from ((c, p) for k, p in enumerate(archive.packages) if any(mask >> k & 1 for mask in broken))
+
+
+def expected(archive, later, kind, uploads):
+    line = 1
     for name, version, block in uploads:
         fault = archive.step(name, version, block)
         if fault:
             return 11, "", f"distfuture: bad journal at line {line}: {fault}\n"
         line += 1 + block.count(b"\n")
     lines = [f"steps {len(uploads)}", f"packages {len(archive.held)}"]
-    for c in range(len(later.clusters)) if kind == "challenged" else ():
-        text = archive.moved(c)
-        if text is not None:
-            broken = later.breaks(c, place_of(later, text))
-            lines += [f"broken {small.label(p)} by {cluster_label(archive, c)} at {text.decode()}"
-                      for k, p in enumerate(packages) if broken >> k & 1 and archive.held.get(p.name) is p]
+    lines += [f"broken {small.label(p)} by {cluster_label(archive, c)} at {text.decode()}"
+              for c, text, p in (broken_by(archive, later) if kind == "challenged" else ())]
     return 0, "".join(line + "\n" for line in lines), ""
 
 
@@ -161,18 +187,32 @@ def one(runner, draw, tried):
     answer = runner.run(*words, writes="cert")
     if answer[0] != 0:
         raise Differs(f"{words}: {answer}")
+    required = {p.name for p in newest if p.essential and essential}
+    today = Archive(newest, arch, later.clusters)
+    for c, p in challenged_by(today, later):
+        *_, left = what_is_left(today, c)
+        if is_installable(left, arch, required, p):
+            raise Differs(f"{data.decode('latin-1')}\n{small.label(p)} does not need {cluster_label(today, c)}")
+        tried["clusters that are needed"] += 1
     three = [upload(draw, newest, later.clusters) for _ in range(3)]
     orders = [order for count in (1, 2, 3) for order in itertools.permutations(three, count)]
     for order in orders:
         journal = journal_of(order)
         runner.put("journal", journal)
         got = runner.run("follow", "/packages", "/cert", "/journal")
-        wanted = expected(newest, arch, later, kind, order)
+        archive = Archive(newest, arch, later.clusters)
+        wanted = expected(archive, later, kind, order)
         if got != wanted:
             raise Differs(f"{words}\n{data.decode('latin-1')}\n---- journal\n{journal.decode('latin-1')}\ngot {got}\nwanted {wanted}")
         tried["journals"] += 1
         tried["followed" if wanted[0] == 0 else wanted[2].split()[-1]] += 1
         tried["with a broken package"] += "broken" in wanted[1]
+        for c, _, p in broken_by(archive, later) if "broken" in wanted[1] else ():
+            for left in what_is_left(archive, c):
+                if is_installable(left, arch, required, p):
+                    told = f"{small.label(p)} is mended: {list(map(small.label, left))}"
+                    raise Differs(f"{data.decode('latin-1')}\n---- journal\n{journal.decode('latin-1')}\n{told}")
+                tried["archives of what is left"] += 1
 
 
 def main():

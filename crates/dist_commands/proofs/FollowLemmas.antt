@@ -7,7 +7,7 @@ use Rattle.std.specs.declared.cmp.Ordering.TheVariants.{Equal}
 use Rattle.std.proofs.lemmas.List.Elements.{All-contains}
 use Rattle.std.proofs.lemmas.Option.{get_or_from_slice_get, slice_get-get_or, slice_get_within}
 use Rattle.dist_outside.specs.Files.{Files}
-use Rattle.dist_base.specs.ListLaws.{any-more, at-has, contains-at, found-at, here-at}
+use Rattle.dist_base.specs.ListLaws.{at-has, contains-at, found-at, here-at}
 use Rattle.dist_version.specs.Order.{version_cmp}
 use Rattle.dist_cluster.specs.Partition.{least}
 use Rattle.dist_repo.specs.declared.package.Package.{Package}
@@ -26,6 +26,7 @@ use Rattle.dist_journal.specs.Broken.{IsBroken, Lists}
 use Rattle.dist_journal.specs.declared.broken_list.Broken.{Broken}
 use Rattle.dist_history.specs.FollowText.{follow_text, held_version, version_of_name}
 use Rattle.dist_history.specs.FollowTextLaws.{version-held}
+use Rattle.dist_history.specs.Left.{HoldsNoOther}
 use Rattle.dist_archive.specs.Archive.{ArchiveView}
 use Rattle.dist_cert.specs.declared.records.CertKind.{CertKind}
 use Rattle.dist_cert.specs.declared.records.CertKind.TheVariants.{Strong, Outdated, Challenged}
@@ -33,7 +34,7 @@ use Rattle.dist_journal.specs.Follow.{IsFollowed, IsStopped}
 use Rattle.dist_journal.specs.declared.fault.FollowError.{FollowError}
 use Rattle.dist_journal.specs.declared.fault.FollowError.TheVariants.{Bad, TooMany, NoMemory}
 use Rattle.dist_commands.specs.DuePrivate.{IsPartGivenUp}
-use Rattle.dist_commands.specs.Follow.{AreToldBroken, JournalStage, StaysBroken, TellsFollowed}
+use Rattle.dist_commands.specs.Follow.{AreToldBroken, IsTrueLine, JournalStage, StaysBroken, TellsFollowed}
 use Rattle.dist_commands.specs.FollowPrivate.{IsBacked, IsRefusalOf, pair_of}
 use Rattle.dist_commands.specs.Stages.{Ends, answered, refused}
 use Rattle.dist_commands.specs.declared.accepting.Accepted.{Accepted}
@@ -41,13 +42,13 @@ use Rattle.dist_commands.specs.declared.refusal.Refusal.{Refusal}
 use Rattle.dist_commands.specs.declared.status.Status.{Status}
 use Rattle.dist_commands.specs.declared.status.Status.TheVariants.{Done}
 
--- the laws of archives: two packages of a cluster are in one, and what challenges a package breaks it after all steps
+-- the laws of archives: two packages of a cluster are in one, and what challenges a package breaks it after all steps, whatever is missing
 abbrev pub AreWhole : Type 0
 AreWhole = (s : SpaceView) (cluster : ℕ) (c q : Package) → IsSpace s → IsOfCluster s cluster c → IsOfCluster s cluster q → IsInClusterOf s.repository c q
 
 abbrev pub HoldAfterSteps : Type 0
 HoldAfterSteps = (essential : Bool) (s : SpaceView) (c p : Package) (version : List ℕ) (steps : List Step) (old new : List Package) → IsSpace s
-    → Challenges essential s.repository c version p → IsFuture s.repository old → Lead s steps old new → HoldsCluster s.repository new c version
+    → Challenges essential s.repository c version p → IsFuture s.repository old → Lead s steps old new → HoldsNoOther s.repository new c version
     → ¬ IsInstallableIn essential s.repository new p
 
 -- the first member of a cluster
@@ -108,25 +109,43 @@ listed-challenges s number cluster class c p version claims.Alive says lists pai
 
 module _ (whole : AreWhole) (after : HoldAfterSteps) (s : SpaceView) (space : IsSpace s) (archive : List Package) (future : IsFuture s.repository archive)
     (made : List Claim) (means : MeansChallenged s made) where
-  pub stays : (broken : Broken) → IsBroken s archive made broken → StaysBroken s archive broken
-  stays broken is c p steps later of own lead holds =
+  -- the version that the cluster has moved to challenges the package
+  moved-challenges : (broken : Broken) (is : IsBroken s archive made broken) (c p : Package) → IsOfCluster s broken.cluster c
+      → slice_get s.repository.packages broken.package_ ≡ Some p → Challenges s.essential s.repository c is.moved.0 p
+  moved-challenges broken is c p of own =
       let at = here-at (λ (claim : Claim). Lists claim broken.cluster is.class) made broken.package_ is.listed in
-      let version : List ℕ = is.moved.0 in
-      let moved = is.moved.1 in
-      let pair : IsOfPair s broken.cluster is.class c version = record {
+      let pair : IsOfPair s broken.cluster is.class c is.moved.0 = record {
         member = of.member;
         in_cluster = of.in_cluster;
         is = of.is;
-        is_version = moved.2.is_version;
+        is_version = is.moved.1.2.is_version;
         of_class = is.moved.2;
       } in
-      let challenges = listed-challenges s broken.package_ broken.cluster is.class c p version at.element
-      (means.each broken.package_ p at.element own at.is) at.holds pair in
-      let equal = held-equal s space broken.cluster moved.0 moved.1 whole archive future version moved.3 in
-      after s.essential s c p version steps archive later space challenges future lead (λ q inside.
-      any-more (λ (n : Package). (n.name ≡ q.name) × (version_cmp n.version (held_version s archive broken.cluster) ≡ Equal))
-      (λ (n : Package). (n.name ≡ q.name) × (version_cmp n.version version ≡ Equal))
-      (λ n both. (both.0, sym (alike-right (held_version s archive broken.cluster) version n.version equal) ∙ both.1)) later (holds q inside))
+      listed-challenges s broken.package_ broken.cluster is.class c p is.moved.0 at.element (means.each broken.package_ p at.element own at.is) at.holds pair
+
+  moved-equal : (broken : Broken) (is : IsBroken s archive made broken) → version_cmp (held_version s archive broken.cluster) is.moved.0 ≡ Equal
+  moved-equal broken is = held-equal s space broken.cluster is.moved.1.0 is.moved.1.1 whole archive future is.moved.0 is.moved.1.3
+
+  pub right : (broken : Broken) → IsBroken s archive made broken → IsTrueLine s archive broken
+  right broken is =
+      let at = here-at (λ (q : Package). Contains archive q) s.repository.packages broken.package_ is.held in
+      let f = first-of s space broken.cluster is.moved.1.0 is.moved.1.1 in
+      record {
+        p = at.element;
+        is_package = at.is;
+        members = f.members;
+        are_members = f.are;
+        c = f.first;
+        is_first = f.is;
+        version = is.moved.0;
+        same = moved-equal broken is;
+        challenges = moved-challenges broken is f.first at.element f.of at.is;
+      }
+
+  pub stays : (broken : Broken) → IsBroken s archive made broken → StaysBroken s archive broken
+  stays broken is c p steps later of own lead only =
+      after s.essential s c p is.moved.0 steps archive later space (moved-challenges broken is c p of own) future lead (λ n there name.
+      sym (alike-right (held_version s archive broken.cluster) is.moved.0 n.version (moved-equal broken is)) ∙ only n there name)
 
 -- ---- what the command tells
 
@@ -157,6 +176,9 @@ module _ (whole : AreWhole) (after : HoldAfterSteps) (space : SpaceView) (is_spa
         followed = followed;
         list = list;
         are_told = told;
+        true_lines = λ broken has.
+            let both = are_broken accepted.header.kind space archive accepted.claims list broken told has in
+            right whole after space is_space archive future accepted.claims (backed both.0) broken both.1;
         stay = λ broken has.
             let both = are_broken accepted.header.kind space archive accepted.claims list broken told has in
             stays whole after space is_space archive future accepted.claims (backed both.0) broken both.1;

@@ -1,5 +1,5 @@
 -- The stages of `follow`, one after another.
-use Rattle.std.proofs.Common.{◌≡◌, ◌<◌, ◌+◌, ℕ, List, length, inl, inr, Option, Result, IfErr, sym, subst, ap, arith}
+use Rattle.std.proofs.Common.{◌≡◌, ◌<◌, ◌+◌, ℕ, Bool, List, length, inl, inr, Option, Result, IfErr, sym, subst, ap, arith}
 use Rattle.dist_outside.specs.Files.{Files}
 use Rattle.dist_outside.specs.DeskView.{DeskView}
 use Rattle.dist_outside.specs.declared.limits.Limits.{Limits}
@@ -7,9 +7,11 @@ use Rattle.dist_repo.specs.PackageList.{PackageList}
 use Rattle.dist_repo.specs.Size.{IsWithinSize}
 use Rattle.dist_space.specs.Space.{SpaceView}
 use Rattle.dist_cert.specs.declared.records.CertKind.{CertKind}
-use Rattle.dist_cert.specs.declared.records.CertKind.TheVariants.{Challenged}
+use Rattle.dist_cert.specs.declared.records.CertKind.TheVariants.{Strong, Outdated, Challenged}
 use Rattle.dist_check.specs.Answers.{AcceptedMeans}
+use Rattle.dist_check.specs.JudgedSpace.{IsJudgedBySpace}
 use Rattle.dist_check.specs.Means.{Means, MeansChallenged}
+use Rattle.dist_subject.specs.Basis.{IsBasisOf, IsLaterOf, Later}
 use Rattle.dist_commands.specs.Check.{CertificateStage}
 use Rattle.dist_commands.specs.DuePrivate.{IsDue, IsPartGivenUp}
 use Rattle.dist_commands.specs.Follow.{JournalStage, JournalStages, TellsFollowed}
@@ -36,6 +38,18 @@ backed one r accepted space made means kind =
     subst (λ (k : CertKind). Means k accepted.header.essential r accepted.claims) kind means.means in
     subst (λ (s : SpaceView). MeansChallenged s accepted.claims)
     (one r accepted.header.essential space all.0 made (all.1, all.2)) all.3
+
+-- the space that certificates of some kind are judged by is the one of the file
+pub at-hand : (r : PackageList) (limits : Limits) (kind : CertKind) (essential : Bool) (space : SpaceView) → IsJudgedBySpace r limits kind essential space
+    → (files : Option Files) → SpaceStage files limits essential r (Goes space)
+at-hand r limits kind essential space judged files =
+    let is = later kind judged.is_basis in
+    ((is.newest, is.is_space), judged.within.variables)
+  where
+    later : (k : CertKind) → IsBasisOf r k essential (Later space judged.inputs) → IsLaterOf r essential space judged.inputs
+    later Strong is = absurd is
+    later Outdated is = is
+    later Challenged is = is
 
 -- ---- once the space is made, or is not
 

@@ -5,6 +5,7 @@ use Rattle.dist_outside.specs.Files.{Files, IsPresent, file_bytes}
 use Rattle.dist_outside.specs.declared.trouble.WorkError.TheVariants as work
 use Rattle.dist_cert.specs.declared.faults.ReadCertError.{ReadCertError}
 use Rattle.dist_cert.specs.declared.faults.ReadCertError.TheVariants.{Bad, Work}
+use Rattle.dist_judge.specs.AnswerLaws.{IsOfText}
 use Rattle.dist_judge.specs.Judging.{OfText}
 use Rattle.dist_commands.specs.Stages.{Ending, Step, Goes, Ends, refused}
 use Rattle.dist_commands.specs.declared.refusal.Refusal.TheVariants.{CertificateRefused, TooLarge}
@@ -15,12 +16,6 @@ pub record IsJudged {X : Type 0} (Answers : List ℕ → Result X ReadCertError 
   pub present : IsPresent files name
   pub answers : OfText (file_bytes files name) (λ text. Answers text result)
   pub some : (text : List ℕ) × Answers text result
-
--- an answer that the bytes decide: neither a fault of reading nor want of memory
-abbrev pub IsOfText : {X : Type 0} → Result X ReadCertError → Type 0
-IsOfText (Err (Work work.ReadFault)) = ⊥
-IsOfText (Err (Work work.NoMemory)) = ⊥
-IsOfText result = Unit {0}
 
 -- Of the answers that the bytes decide this one is given, and no other.
 pub record IsOneAnswer {X : Type 0} (Answers : List ℕ → Result X ReadCertError → Type 0) (files : Option Files)

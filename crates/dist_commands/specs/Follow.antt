@@ -1,11 +1,14 @@
 -- What `follow PACKAGES CERT JOURNAL` comes to.
 use Rattle.std.specs.Prelude.{◌≡◌, ℕ, List, [], Contains, Option, Some, slice_get}
+use Rattle.std.specs.declared.cmp.Ordering.TheVariants.{Equal}
 use Rattle.dist_outside.specs.Files.{Files}
 use Rattle.dist_outside.specs.declared.limits.Limits.{Limits}
 use Rattle.dist_outside.specs.declared.trouble.What.TheVariants.{Stanzas}
+use Rattle.dist_version.specs.Order.{version_cmp}
+use Rattle.dist_cluster.specs.Partition.{least}
 use Rattle.dist_repo.specs.declared.package.Package.{Package}
 use Rattle.dist_space.specs.Space.{SpaceView}
-use Rattle.dist_future.specs.Outdated.{HoldsCluster, IsInstallableIn}
+use Rattle.dist_future.specs.Outdated.{Challenges, IsInstallableIn}
 use Rattle.dist_archive.specs.Steps.{IsOfCluster, Lead}
 use Rattle.dist_archive.specs.declared.step.Step.{Step as ArchiveStep}
 use Rattle.dist_cert.specs.declared.records.CertKind.{CertKind}
@@ -18,6 +21,7 @@ use Rattle.dist_journal.specs.declared.broken_list.Broken.{Broken}
 use Rattle.dist_journal.specs.declared.fault.FollowError.{FollowError}
 use Rattle.dist_journal.specs.declared.fault.FollowError.TheVariants.{Bad, TooMany, NoMemory}
 use Rattle.dist_history.specs.FollowText.{follow_text, held_version}
+use Rattle.dist_history.specs.Left.{HoldsNoOther}
 use Rattle.dist_commands.specs.Check.{CheckStages}
 use Rattle.dist_commands.specs.SpaceStage.{SpaceStage}
 use Rattle.dist_commands.specs.Stages.{Ending, Step, Goes, Ends, Then, answered, refused}
@@ -59,13 +63,27 @@ AreToldBroken Strong space archive made list = list ≡ []
 AreToldBroken Outdated space archive made list = list ≡ []
 AreToldBroken Challenged space archive made list = AreBroken space archive made list
 
--- What a line that names a package promises: after every further list of steps at whose end an archive holds the
--- cluster at a version equal to the one in the line, no healthy installation of that archive has the package itself.
+-- A line that names a package is true: a version that is equal to the one in the line challenges it. The cluster goes
+-- by its member that stands first.
+pub record IsTrueLine (space : SpaceView) (archive : List Package) (broken : Broken) : Type 0 where
+  pub p : Package
+  pub is_package : slice_get space.repository.packages broken.package_ ≡ Some p
+  pub members : List ℕ
+  pub are_members : slice_get space.clusters.members broken.cluster ≡ Some members
+  pub c : Package
+  pub is_first : slice_get space.repository.packages (least members) ≡ Some c
+  pub version : List ℕ
+  pub same : version_cmp (held_version space archive broken.cluster) version ≡ Equal
+  pub challenges : Challenges space.essential space.repository c version p
+
+-- What a line that names a package promises: after every further list of steps at whose end an archive holds no package
+-- of the cluster's names at another version than the one in the line, no healthy installation of that archive has the
+-- package itself. Packages of the cluster may be missing, all of them too.
 abbrev pub StaysBroken : SpaceView → (archive : List Package) → Broken → Type 0
 StaysBroken space archive broken = (c p : Package) (steps : List ArchiveStep) (later : List Package)
     → IsOfCluster space broken.cluster c → slice_get space.repository.packages broken.package_ ≡ Some p
     → Lead space steps archive later
-    → HoldsCluster space.repository later c (held_version space archive broken.cluster)
+    → HoldsNoOther space.repository later c (held_version space archive broken.cluster)
     → ¬ IsInstallableIn space.essential space.repository later p
 
 -- The journal is followed to its end, and it is told what this leaves.
@@ -76,6 +94,7 @@ pub record TellsFollowed (files : Option Files) (stanzas : ℕ) (space : SpaceVi
   pub followed : IsFollowedWhole stanzas space journal archive count
   pub list : List Broken
   pub are_told : AreToldBroken accepted.0.kind space archive accepted.1 list
+  pub true_lines : (broken : Broken) → Contains list broken → IsTrueLine space archive broken
   pub stay : (broken : Broken) → Contains list broken → StaysBroken space archive broken
   pub is : ending ≡ answered files Done (follow_text space archive count list)
 

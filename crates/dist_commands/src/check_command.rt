@@ -60,8 +60,8 @@ fn judge_certificate<D: Desk>(
         (Reports (D.view desk.old).files repository.now)) (D.view desk.old) (D.view desk.new)) }
     ensures only_reads { OnlyReads (D.view desk.old) (D.view desk.new) }
 {
-    match accept(alloc, desk, repository, cert, limits) {
-        Ok(accepted) => {
+    match accept(alloc, desk, repository, cert, false, limits) {
+        Ok((accepted, _)) => {
             let told = report(alloc, repository, &accepted.header, &accepted.claims);
             drop(accepted);
             match told {

@@ -1,5 +1,5 @@
 //! What `follow` makes of a journal, and what it tells.
-ghost use Rattle.std.specs.Prelude.{◌≡◌, ◌≢◌, ◌+◌, ◌<◌, ◌++◌, IfErr, IfOk, List, Option, length};
+ghost use Rattle.std.specs.Prelude.{◌≡◌, ◌+◌, ◌<◌, ◌++◌, IfErr, IfOk, List, Option, length};
 ghost use Rattle.dist_outside.specs.Files.{Files};
 ghost use Rattle.dist_journal.specs.Broken.{AreBroken};
 ghost use Rattle.dist_journal.specs.declared.broken_list.Broken.{Broken};
@@ -13,9 +13,9 @@ use crate::accepting::Accepted;
 use crate::answer::Answer;
 use crate::refusal::Refusal;
 use crate::status::Status;
-use dist_archive::{Archive, challenges_hold_after_steps, clusters_are_whole, start};
+use dist_archive::{Archive, clusters_are_whole, start};
 use dist_cert::{CertKind, Claims};
-use dist_history::{counts_text, write_broken_list};
+use dist_history::{counts_text, missing_packages_mend_nothing, write_broken_list};
 use dist_journal::{FollowError, broken, follow};
 use dist_outside::What;
 use dist_space::Space;
@@ -91,17 +91,15 @@ pub(crate) fn make_steps(
     ensures given_up { IfErr result (λ refusal. (files : Option Files)
         → IsPartGivenUp (λ ending. JournalStage files stanzas space journal.now (Ends ending)) files refusal) }
 {
-    // What these calls tell is that it is a space, that its clusters are whole, and that what is broken stays so.
-    let _variables = space.variables();
+    space.keeps_invariant();
     clusters_are_whole();
-    challenges_hold_after_steps();
+    missing_packages_mend_nothing();
     let Ok(mut archive) = start(alloc, space) else {
         return Err(Refusal::NoMemory);
     };
     match follow(alloc, &mut archive, journal, stanzas) {
         Ok(count) => {
-            // What this call tells is that the archive is a future.
-            let _held = archive.len();
+            archive.keeps_invariant();
             let told = tell_followed(alloc, &archive, count, accepted);
             drop(archive);
             match told {

@@ -3,7 +3,7 @@ ghost use Rattle.std.specs.Prelude.{◌≡◌, ℕ, List, Option, IfOk, IfErr, l
 ghost use Rattle.dist_outside.specs.Files.{Files, IsNotWriting};
 ghost use Rattle.dist_outside.specs.DeskView.{OnlyReads};
 ghost use Rattle.dist_repo.specs.Size.{IsWithinSize};
-ghost use Rattle.dist_commands.specs.Stages.{Ending, Goes, Ends, Then, answered};
+ghost use Rattle.dist_commands.specs.Stages.{Goes, Ends, Then, answered};
 ghost use Rattle.dist_commands.specs.TextStage.{TextStage};
 ghost use Rattle.dist_commands.specs.Health.{HealthStages, Judges, ListStage, ListStages};
 ghost use Rattle.dist_commands.specs.DuePrivate.{IsDue, IsPartGivenUp};

@@ -41,8 +41,7 @@ fn tell_reached(alloc: Global, space: &Space, later: &Repository) -> Result<Answ
     requires same { ¬ IsOfOtherArchitecture space.now.repository later.now }
     ensures { IfOk result (λ answer. IsLaterTold space.now later.now answer.status answer.text.items) }
 {
-    // What these calls tell is that it is a space, and that steps reach its futures and nothing else.
-    let _variables = space.variables();
+    space.keeps_invariant();
     futures_are_reached();
     match reach(alloc, space, later) {
         Ok(plan) => {

@@ -1,5 +1,4 @@
 //! Texts that are written in pieces, so that they take no memory.
-ghost use Rattle.std.specs.Prelude.{◌≡◌};
 ghost use Rattle.std.specs.List.{flat_map};
 ghost use Rattle.dist_commands.specs.Writes.{Writes};
 

@@ -1,14 +1,12 @@
 -- The lines of packages that clusters break.
 use Rattle.std.proofs.Common.{◌≡◌, ℕ, ◌+◌, ◌≤◌, List, [], ◌++◌, append-nil, length, take, Option, None, Some, sym, ap, ◌∙◌, slice_get, subst}
-use Rattle.std.specs.Option.{option_copied, option_map_or}
-use Rattle.std.specs.Prelude.{◌↔◌}
+use Rattle.std.specs.Option.{option_map_or}
 use Rattle.std.proofs.lemmas.List.{flat_map_more, take_all}
 use Rattle.std.proofs.lemmas.Option.{slice_get_past}
 use Rattle.dist_cluster.specs.Partition.{least}
 use Rattle.dist_cluster.specs.Top.{ClusterList}
 use Rattle.dist_repo.specs.declared.package.Package.{Package}
 use Rattle.dist_space.specs.Space.{SpaceView}
-use Rattle.dist_archive.specs.Archive.{IsHeldAs}
 use Rattle.dist_journal.specs.declared.broken_list.Broken.{Broken}
 use Rattle.dist_report.specs.PackageText.{label}
 use Rattle.dist_history.specs.FollowText.{broken_text, broken_texts, held_version, version_of_name}

@@ -1,7 +1,7 @@
 -- What is held of a name, by its version: an archive has one package of a name. No public clause cites these laws;
 -- proofs do, those of the crate above too.
 use Rattle.std.proofs.Common.{◌≡◌, ℕ, suc, Bool, true, false, List, [], ◌∷◌, Option, None, Some, arith, cond, sym, ap}
-use Rattle.std.proofs.Common.{refl, subst, ◌∙◌, inl, inr}
+use Rattle.std.proofs.Common.{refl, ◌∙◌, inl, inr}
 use Rattle.std.specs.Prelude.{Contains}
 use Rattle.std.specs.List.{find}
 use Rattle.std.specs.Option.{option_map_or}

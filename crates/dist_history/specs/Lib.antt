@@ -1,4 +1,6 @@
 pub mod PlanText
 pub mod FollowText
 pub mod FollowTextLaws
+pub mod Left
+pub mod LeftExamples
 pub mod PlanTextExamples

@@ -1,5 +1,5 @@
 //! What is told of a journal that was followed.
-ghost use Rattle.std.specs.Prelude.{◌≡◌, ◌++◌, IfOk, OnOk, decimal, length, slice_get, []};
+ghost use Rattle.std.specs.Prelude.{◌≡◌, ◌++◌, IfOk, OnOk, length, slice_get, []};
 ghost use Rattle.std.specs.Option.{option_map_or};
 ghost use Rattle.dist_report.specs.PackageText.{label};
 ghost use Rattle.dist_history.specs.FollowText.{broken_text, broken_texts, counts_text, held_version, version_of_name};
@@ -39,8 +39,7 @@ fn write_package(out: &mut Vec<u8>, space: &Space, number: u32) -> Result<(), Al
 fn write_version_of(out: &mut Vec<u8>, archive: &Archive, name: &[u8]) -> Result<(), AllocError>
     ensures { OnOk result (out.new.items ≡ out.old.items ++ version_of_name archive.now.packages name.now) }
 {
-    // What this call tells is that the archive has one package of a name.
-    let _count = archive.len();
+    archive.keeps_invariant();
     match archive.held(name) {
         Some(package) => {
             out.extend_from_slice(package.version.text())?;
@@ -57,8 +56,7 @@ fn write_held_version(out: &mut Vec<u8>, archive: &Archive, cluster: u32) -> Res
     let space = archive.space();
     let clusters = space.clusters();
     if cluster < clusters.len() {
-        // What this call tells is that it is a space.
-        let _variables = space.variables();
+        space.keeps_invariant();
         let members = clusters.members(cluster);
         write_version_of(out, archive, space.package(members[0]).name.bytes())
     } else {

@@ -5,8 +5,10 @@
 #![tactic(auto)]
 
 mod followed;
+mod laws;
 mod step_lines;
 mod texts;
 
 pub use followed::{counts_text, write_broken_list};
+pub use laws::{challenged_packages_need_the_cluster, missing_packages_mend_nothing};
 pub use texts::{misfit_text, plan_text};

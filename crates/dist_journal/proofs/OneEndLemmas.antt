@@ -11,14 +11,13 @@ use Rattle.dist_repo.specs.declared.package.Package.{Package}
 use Rattle.dist_package.specs.FirstFault.{AreRead, IsRefused}
 use Rattle.dist_package.specs.OneAnswer.{HasOneAnswer}
 use Rattle.dist_package.specs.RepositoryOf.{IsRepositoryOf}
-use Rattle.dist_package.specs.declared.error.Fault.{Fault}
 use Rattle.dist_package.specs.declared.error.PackagesError.{PackagesError}
 use Rattle.dist_package.specs.declared.error.PackagesError.TheVariants as packages_error
 use Rattle.dist_space.specs.ClusterLaws.{names-apart, placed-in}
 use Rattle.dist_space.specs.Space.{IsSpace, SpaceView}
 use Rattle.dist_future.specs.Future.{IsTaken}
 use Rattle.dist_archive.specs.Moved.{IsClusterNamed}
-use Rattle.dist_archive.specs.Reach.{AreMade, AreTaken}
+use Rattle.dist_archive.specs.Reach.{AreTaken}
 use Rattle.dist_archive.specs.Refusals.{Refuses}
 use Rattle.dist_archive.specs.Same.{AreSame}
 use Rattle.dist_archive.specs.Steps.{Lead, Makes}
@@ -26,8 +25,8 @@ use Rattle.dist_archive.specs.declared.step.Step.{Step}
 use Rattle.dist_archive.specs.declared.step.Step.TheVariants as step
 use Rattle.dist_archive.specs.declared.step.StepError.{StepError}
 use Rattle.dist_journal.specs.Blocks.{IsBlockOf, IsBlockRefused}
-use Rattle.dist_journal.specs.Faults.{BringsBlock, HasFault, IsEntryError}
-use Rattle.dist_journal.specs.Follow.{Follows, IsFollowed, IsStopped, IsStrayHead, StopsAt}
+use Rattle.dist_journal.specs.Faults.{BringsBlock, IsEntryError}
+use Rattle.dist_journal.specs.Follow.{Follows, IsFollowed, IsStopped, StopsAt}
 use Rattle.dist_journal.specs.Journal.{AreBlank, Entry, IsFirstStray, SayNothing, Says, entries, front, words}
 use Rattle.dist_journal.specs.OneEnd.{HasOneEnd}
 use Rattle.dist_journal.specs.Steps.{AreStepsOf, IsStepOf}

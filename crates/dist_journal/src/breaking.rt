@@ -1,5 +1,5 @@
 //! Which packages moved clusters break.
-ghost use Rattle.std.specs.Prelude.{◌≡◌, ◌↔◌, ◌<◌, ℕ, List, Contains, IfOk, IsSomeAnd, IsTrue, OnOk, Some, length, slice_get};
+ghost use Rattle.std.specs.Prelude.{◌≡◌, ◌↔◌, ◌<◌, ℕ, List, Contains, IfOk, IsTrue, OnOk, Some, length};
 ghost use Rattle.dist_repo.specs.PackageList.{IsPackageAnd};
 ghost use Rattle.dist_cert.specs.declared.records.Claim.TheVariants.{Challenged};
 ghost use Rattle.dist_journal.specs.Broken.{AreBroken, IsMovedInto};

@@ -90,9 +90,8 @@ pub fn follow(
     ensures refused { (line : ℕ) → result ≢ Err (FollowError.Bad line (JournalFault.Refused StepError.NoMemory)) }
 {
     lists_of_steps_grow();
-    // What these calls tell is that it is a space, and that the archive has one package of a name.
-    let _variables = archive.space().variables();
-    let _count = archive.len();
+    archive.space().keeps_invariant();
+    archive.keeps_invariant();
     let (head, mut rest, lines) = split_block(journal);
     if let Some(line) = first_stray(head, 1) {
         return Err(FollowError::Bad(line, JournalFault::Stray));

@@ -29,5 +29,5 @@ returns-in-Err-NotAFuture c =
     (inr (
       c.requires.same,
       misfit,
-      λ reached. none ((c.futures_are_reached.ensures.exactly space later.packages c.variables-variables.ensures.space).0 reached),
+      λ reached. none ((c.futures_are_reached.ensures.exactly space later.packages c.keeps_invariant.ensures.space).0 reached),
     )) c.package.ensures not told) c.tell_misfit.ensures.status c.tell_misfit.ensures.text

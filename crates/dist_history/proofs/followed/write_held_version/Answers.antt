@@ -7,7 +7,7 @@ use Rattle.dist_history.proofs.followed.write_held_version.Goals as goal
 
 pub package-requires : goal.package-requires
 package-requires c =
-    first-within c.space-space.result.now c.variables-variables.ensures.space.frame c.clusters-clusters.result.now c.clusters-clusters.ensures c.args.cluster
+    first-within c.space-space.result.now c.keeps_invariant.ensures.space.frame c.clusters-clusters.result.now c.clusters-clusters.ensures c.args.cluster
     c.members-members.result.now c.members-members.ensures
 
 pub returns-else-cluster-len : goal.returns-else-cluster-len

@@ -8,7 +8,7 @@ returns-in_ok-extend_from_slice-in-Some c =
     let p : Package = c.in-Some.package.now in
     (c.in_ok-extend_from_slice-in-Some).ensures.items
     ∙ ap (λ (v : List ℕ). c.args.out.now.items ++ v) (c.text.ensures.value
-    ∙ sym (version-held c.args.name.now c.args.archive.now.packages p c.len-count.ensures.future.one_of_a_name ((c.in-Some.ensures p).0 refl)))
+    ∙ sym (version-held c.args.name.now c.args.archive.now.packages p c.keeps_invariant.ensures.one_of_a_name ((c.in-Some.ensures p).0 refl)))
 
 pub returns-in-None : goal.returns-in-None
 returns-in-None c =

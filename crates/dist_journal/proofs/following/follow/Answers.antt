@@ -21,7 +21,7 @@ pub returns-in-Some-clause-left : goal.returns-in-Some-clause-left
 returns-in-Some-clause-left c =
     let v = c.args.archive.now in
     none-left v.space c.args.stanzas c.args.journal.now v.packages
-    (c.lists_of_steps_grow.ensures.none v.space v.packages c.len-count.ensures.future.one_of_a_name)
+    (c.lists_of_steps_grow.ensures.none v.space v.packages c.keeps_invariant-2.ensures.one_of_a_name)
 
 pub loop-rest-init : goal.loop-rest-init
 loop-rest-init c =
@@ -30,7 +30,7 @@ loop-rest-init c =
     record {
       space = refl;
       far = to-start v.space c.args.stanzas c.args.journal.now v.packages c.split_block-lines.result.0.now c.split_block-lines.result.1.now
-          c.split_block-lines.result.2 (c.lists_of_steps_grow.ensures.none v.space v.packages c.len-count.ensures.future.one_of_a_name)
+          c.split_block-lines.result.2 (c.lists_of_steps_grow.ensures.none v.space v.packages c.keeps_invariant-2.ensures.one_of_a_name)
           c.in_default.ensures c.split_block-lines.ensures.cut c.split_block-lines.ensures.count;
       at_step = c.split_block-lines.ensures.cut.at_step;
       numbered = omega (arith, short);
@@ -82,7 +82,7 @@ loop-rest-preserved c =
     let inv = c.loop-rest.invariant in
     let middle = c.loop-rest.archive.packages in
     let newer = c.follow_section.new.archive.packages in
-    let space = subst (λ (x : SpaceView). IsSpace x) c.space.ensures c.variables-variables.ensures.space in
+    let space = subst (λ (x : SpaceView). IsSpace x) c.space.ensures c.keeps_invariant.ensures.space in
     let entry : Entry = record { number = c.loop-rest.number; line = c.split_line.result.0.now; block = lines c.split_block-lines-in-loop-rest.result.0.now } in
     let a = inv.numbered in
     let b = c.split_line.ensures.shorter in
