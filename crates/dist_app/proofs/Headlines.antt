@@ -22,7 +22,7 @@ use Rattle.dist_subject.specs.Limited.{PassesFirst}
 use Rattle.dist_words.specs.CommandLine.{CommandLine, Sweep, Check, CheckExplain, Explain, CheckRepair}
 use Rattle.dist_words.specs.CommandLine.{Repair as RepairLine, Steps, Follow}
 use Rattle.dist_words.specs.Table.{command_of}
-use Rattle.dist_app.specs.LawsPrivate.{ClaimsHold, ExplanationsHold, RepairsHold}
+use Rattle.dist_app.specs.LawsPrivate.{ClaimsHold, ExplanationsHold, MarksAreRight, RepairsHold}
 use Rattle.dist_commands.specs.Check.{CertificateAnswers, CertificateStage, CheckStages, Reports}
 use Rattle.dist_commands.specs.CheckExplain.{CheckExplainStages, ExplanationReads, ExplanationStage, TellsExplained}
 use Rattle.dist_commands.specs.CheckRepair.{CheckRepairStages, RepairReads, RepairStage, TellsRepair}
@@ -64,7 +64,8 @@ of_line words files limits line ending is (inr (other, is_other, decides)) =
 
 -- ---- sweeps
 
-module _ (hold : ClaimsHold) (limits : Limits) (kind : CertKind) (packages cert : List ℕ) (essential : Bool) (limit : ℕ) (result : Status)
+module _ (hold : ClaimsHold) (right : MarksAreRight) (limits : Limits) (kind : CertKind) (packages cert : List ℕ) (essential : Bool) (limit : ℕ)
+    (result : Status)
     (desk desk' : DeskView) (out out' : SinkView) (ending : Ending)
     (status_is : result ≡ ending.status) (carried : IsCarriedOut ending.status) (files : desk'.files ≡ ending.files) (printed : Grew ending.out out out') where
   swept_proves : (r : PackageList) → PackagesStage desk.files limits packages (Goes r)
@@ -78,6 +79,7 @@ module _ (hold : ClaimsHold) (limits : Limits) (kind : CertKind) (packages cert 
     certificate = swept.whole;
     files = files ∙ ap (λ (e : Ending). e.files) swept.is;
     means = sweep_means hold r kind essential limit limits swept.text swept.made has.in_order swept.whole;
+    marks = right r limits swept.text;
     report = swept.out;
     is_report = swept.told;
     printed = subst (λ (e : Ending). Grew e.out out out') swept.is printed;
@@ -94,7 +96,7 @@ module _ (hold : ClaimsHold) (limits : Limits) (kind : CertKind) (packages cert 
 
 -- ---- `check`
 
-module _ (limits : Limits) (packages cert : List ℕ) (result : Status) (desk desk' : DeskView) (out out' : SinkView) (ending : Ending)
+module _ (right : MarksAreRight) (limits : Limits) (packages cert : List ℕ) (result : Status) (desk desk' : DeskView) (out out' : SinkView) (ending : Ending)
     (status_is : result ≡ ending.status) (carried : IsCarriedOut ending.status) (files : desk'.files ≡ ending.files) (printed : Grew ending.out out out') where
   accepted_proves : (r : PackageList) (accepted : Header × List Claim) → PackagesStage desk.files limits packages (Goes r)
       → CertificateStage desk.files limits cert r (Goes accepted) → Reports desk.files r accepted ending
@@ -108,6 +110,7 @@ module _ (limits : Limits) (packages cert : List ℕ) (result : Status) (desk de
     accepted = judged.answers;
     files = files ∙ ap (λ (e : Ending). e.files) reports.is;
     means = reports.means;
+    marks = right r limits;
     report = reports.text;
     is_report = reports.is_report;
     printed = subst (λ (e : Ending). Grew e.out out out') reports.is printed;
@@ -324,7 +327,7 @@ module _ (limits : Limits) (packages later : List ℕ) (desk desk' : DeskView) (
 
 -- ---- `follow`
 
-module _ (limits : Limits) (packages cert journal : List ℕ) (desk desk' : DeskView) (out out' : SinkView) (ending : Ending)
+module _ (right : MarksAreRight) (limits : Limits) (packages cert journal : List ℕ) (desk desk' : DeskView) (out out' : SinkView) (ending : Ending)
     (done : ending.status ≡ Done) (files : desk'.files ≡ ending.files) (printed : Grew ending.out out out') where
   abbrev ProvesIt : Type 0
   ProvesIt = ProvesFollow limits packages cert journal desk desk' out out'
@@ -343,6 +346,7 @@ module _ (limits : Limits) (packages cert journal : List ℕ) (desk desk' : Desk
     made = accepted.1;
     present = judged.present;
     accepted = judged.answers;
+    marks = right r limits;
     space = space;
     is_space = made.0;
     text = text;
@@ -352,6 +356,7 @@ module _ (limits : Limits) (packages cert journal : List ℕ) (desk desk' : Desk
     followed = told.followed;
     list = told.list;
     are_told = told.are_told;
+    true_lines = told.true_lines;
     stay = told.stay;
     printed = subst (λ (e : Ending). Grew e.out out out') told.is printed;
     files = files ∙ ap (λ (e : Ending). e.files) told.is;
@@ -393,14 +398,14 @@ module _ (words : List (List ℕ)) (limits : Limits) (result : Status) (desk des
     ended : IsCarriedOut runs.ending.status
     ended = subst IsCarriedOut runs.ends.status carried
 
-  pub sweep_proved : ClaimsHold → SweepIsProved words limits result desk desk' out out'
-  sweep_proved hold kind packages cert essential limit is carried =
-      sweep_proves hold limits kind packages cert essential limit result desk desk' out out' runs.ending runs.ends.status (ended carried) runs.ends.files
+  pub sweep_proved : ClaimsHold → MarksAreRight → SweepIsProved words limits result desk desk' out out'
+  sweep_proved hold right kind packages cert essential limit is carried =
+      sweep_proves hold right limits kind packages cert essential limit result desk desk' out out' runs.ending runs.ends.status (ended carried) runs.ends.files
       runs.ends.printed (carried_line carried (Sweep kind packages cert essential limit) is)
 
-  pub check_proved : CheckIsProved words limits result desk desk' out out'
-  check_proved packages cert is carried =
-      check_proves limits packages cert result desk desk' out out' runs.ending runs.ends.status (ended carried) runs.ends.files runs.ends.printed
+  pub check_proved : MarksAreRight → CheckIsProved words limits result desk desk' out out'
+  check_proved right packages cert is carried =
+      check_proves right limits packages cert result desk desk' out out' runs.ending runs.ends.status (ended carried) runs.ends.files runs.ends.printed
       (carried_line carried (Check packages cert) is)
 
   pub explain_proved : ExplanationsHold → ExplainIsProved words limits result desk desk' out out'
@@ -434,7 +439,7 @@ module _ (words : List (List ℕ)) (limits : Limits) (result : Status) (desk des
     λ misfit. (steps_come packages later (decided (λ e. cc) (λ e. cc) (λ e. cc) (Steps packages later) is)).1 (sym runs.ends.status ∙ misfit),
   )
 
-  pub follow_proved : FollowIsProved words limits result desk desk' out out'
-  follow_proved packages cert journal is done =
-      follow_proves limits packages cert journal desk desk' out out' runs.ending (sym runs.ends.status ∙ done) runs.ends.files runs.ends.printed
+  pub follow_proved : MarksAreRight → FollowIsProved words limits result desk desk' out out'
+  follow_proved right packages cert journal is done =
+      follow_proves right limits packages cert journal desk desk' out out' runs.ending (sym runs.ends.status ∙ done) runs.ends.files runs.ends.printed
       (decided (λ e. cc) (λ e. cc) (λ e. cc) (Follow packages cert journal) is)

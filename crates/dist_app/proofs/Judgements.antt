@@ -7,7 +7,8 @@ use Rattle.dist_outside.specs.declared.trouble.WorkError.TheVariants as work
 use Rattle.dist_cert.specs.declared.faults.ReadCertError.{ReadCertError}
 use Rattle.dist_cert.specs.declared.faults.ReadCertError.TheVariants.{Bad, Work}
 use Rattle.dist_judge.specs.Judging.{OfText}
-use Rattle.dist_commands.specs.CheckedFile.{CheckStage, IsEndOfError, IsJudged, IsOfText, IsOneAnswer}
+use Rattle.dist_commands.specs.CheckedFile.{CheckStage, IsEndOfError, IsJudged, IsOneAnswer}
+use Rattle.dist_judge.specs.AnswerLaws.{IsOfText}
 use Rattle.dist_app.specs.Complete.{IsStatusOfFile, IsStatusOfRefused, error_status}
 use Rattle.dist_commands.specs.Stages.{Ending, Goes, Ends, IsDetermined, Then}
 use Rattle.dist_commands.specs.declared.status.Status.{Status}

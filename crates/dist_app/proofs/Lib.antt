@@ -9,3 +9,6 @@ mod Refused
 mod Runs
 mod StageLaws
 mod SweepMeanings
+mod MovesTruth
+mod ToldTruth
+mod Truths

@@ -10,15 +10,17 @@ use Rattle.dist_cert.specs.declared.faults.ReadCertError.{ReadCertError}
 use Rattle.dist_cert.specs.declared.faults.ReadCertError.TheVariants.{Bad, Work}
 use Rattle.dist_cert.specs.declared.records.Claim.{Claim}
 use Rattle.dist_cert.specs.declared.records.Header.{Header}
-use Rattle.dist_check.specs.Answers.{Answers, IsOfText as IsOfCertificate, as_read}
+use Rattle.dist_judge.specs.AnswerLaws.{IsOfText}
+use Rattle.dist_judge.specs.Causes.{IsOfText as IsOfAnswer}
+use Rattle.dist_check.specs.Answers.{Answers, as_read}
 use Rattle.dist_check.specs.declared.verdict.Verdict.{Verdict}
 use Rattle.dist_check.specs.declared.verdict.Verdict.TheVariants.{Accepted, Refused}
-use Rattle.dist_explain.specs.Verdicts.{ExplanationAnswers, IsOfText as IsOfExplanation}
+use Rattle.dist_explain.specs.Verdicts.{ExplanationAnswers}
 use Rattle.dist_explain.specs.declared.explained.Explained.{Explained}
 use Rattle.dist_explain.specs.declared.verdict.ExplainHeader.{ExplainHeader}
 use Rattle.dist_explain.specs.declared.verdict.ExplainVerdict.{ExplainVerdict}
 use Rattle.dist_explain.specs.declared.verdict.ExplainVerdict.TheVariants as explain
-use Rattle.dist_repair.specs.Verdicts.{IsOfText as IsOfRepair, RepairAnswers}
+use Rattle.dist_repair.specs.Verdicts.{RepairAnswers}
 use Rattle.dist_repair.specs.declared.repair.Repair.{Repair}
 use Rattle.dist_repair.specs.declared.verdict.RepairHeader.{RepairHeader}
 use Rattle.dist_repair.specs.declared.verdict.RepairVerdict.{RepairVerdict}
@@ -27,7 +29,6 @@ use Rattle.dist_space.specs.Space.{SpaceView}
 use Rattle.dist_commands.specs.Check.{CertificateAnswers}
 use Rattle.dist_commands.specs.CheckExplain.{ExplanationReads}
 use Rattle.dist_commands.specs.CheckRepair.{RepairReads}
-use Rattle.dist_commands.specs.CheckedFile.{IsOfText}
 use Rattle.dist_app.specs.LawsPrivate.{HaveOneAnswer, HaveOneExplanation, HaveOneRepair}
 use Rattle.dist_app.proofs.Judgements.{AnswersOnce}
 
@@ -37,18 +38,26 @@ by accepted refused (Ok x) = Ok (accepted x)
 by accepted refused (Err (Bad fault)) = Ok (refused fault)
 by accepted refused (Err (Work error)) = Err error
 
+-- an answer that the bytes decide is one that the text decides
+of_text : {X V : Type 0} (accepted : X → V) (refused : CertFault → V) (x : Result X ReadCertError) → IsOfText x → IsOfAnswer (by accepted refused x)
+of_text accepted refused (Ok x) of = tt
+of_text accepted refused (Err (Bad fault)) of = tt
+of_text accepted refused (Err (Work work.ReadFault)) of = of
+of_text accepted refused (Err (Work work.WriteFault)) of = tt
+of_text accepted refused (Err (Work (work.TooLarge what))) of = tt
+of_text accepted refused (Err (Work work.NoMemory)) of = of
+
 -- answers of which a checker has one, as of what the stage takes
 module _ {X V : Type 0} (accepted : X → V) (refused : CertFault → V) (read : Result V WorkError → Result X ReadCertError)
     (back : (x : Result X ReadCertError) → read (by accepted refused x) ≡ x) (Answers : List ℕ → Result V WorkError → Type 0)
-    (IsOf : Result V WorkError → Type 0) (Reads : List ℕ → Result X ReadCertError → Type 0)
-    (are : (text : List ℕ) (x : Result X ReadCertError) → Reads text x → Answers text (by accepted refused x))
-    (of : (x : Result X ReadCertError) → IsOfText x → IsOf (by accepted refused x)) where
-  reads_once : ((text : List ℕ) (result other : Result V WorkError) → Answers text result → Answers text other → IsOf result → IsOf other → other ≡ result)
-      → AnswersOnce Reads
+    (Reads : List ℕ → Result X ReadCertError → Type 0)
+    (are : (text : List ℕ) (x : Result X ReadCertError) → Reads text x → Answers text (by accepted refused x)) where
+  reads_once : ((text : List ℕ) (result other : Result V WorkError) → Answers text result → Answers text other → IsOfAnswer result → IsOfAnswer other
+      → other ≡ result) → AnswersOnce Reads
   reads_once one text result other first second of_first of_second =
       sym (back other)
-      ∙ ap read (one text (by accepted refused result) (by accepted refused other) (are text result first) (are text other second) (of result of_first)
-      (of other of_second))
+      ∙ ap read (one text (by accepted refused result) (by accepted refused other) (are text result first) (are text other second)
+      (of_text accepted refused result of_first) (of_text accepted refused other of_second))
       ∙ back result
 
 -- ---- certificates
@@ -70,17 +79,9 @@ answers_by r limits text (Ok accepted) h = h
 answers_by r limits text (Err (Bad fault)) h = h
 answers_by r limits text (Err (Work error)) h = h
 
-of_text_by : (x : Certified) → IsOfText x → IsOfCertificate (by certificate_of Refused x)
-of_text_by (Ok accepted) of = tt
-of_text_by (Err (Bad fault)) of = tt
-of_text_by (Err (Work work.ReadFault)) of = of
-of_text_by (Err (Work work.WriteFault)) of = tt
-of_text_by (Err (Work (work.TooLarge what))) of = tt
-of_text_by (Err (Work work.NoMemory)) of = of
-
 pub certificates_once : HaveOneAnswer → (r : PackageList) (limits : Limits) → IsInOrder r.packages → AnswersOnce (CertificateAnswers r limits)
 certificates_once one r limits order =
-    reads_once certificate_of Refused as_read read_back (Answers r limits) IsOfCertificate (CertificateAnswers r limits) (answers_by r limits) of_text_by
+    reads_once certificate_of Refused as_read read_back (Answers r limits) (CertificateAnswers r limits) (answers_by r limits)
     (λ text result other. one r limits text result other order)
 
 -- ---- explanations
@@ -107,18 +108,10 @@ explains_by r limits text (Ok accepted) h = h
 explains_by r limits text (Err (Bad fault)) h = h
 explains_by r limits text (Err (Work error)) h = h
 
-of_explanation_by : (x : Explaining) → IsOfText x → IsOfExplanation (by explanation_of explain.Refused x)
-of_explanation_by (Ok accepted) of = tt
-of_explanation_by (Err (Bad fault)) of = tt
-of_explanation_by (Err (Work work.ReadFault)) of = of
-of_explanation_by (Err (Work work.WriteFault)) of = tt
-of_explanation_by (Err (Work (work.TooLarge what))) of = tt
-of_explanation_by (Err (Work work.NoMemory)) of = of
-
 pub explanations_once : HaveOneExplanation → (r : PackageList) (limits : Limits) → IsInOrder r.packages → AnswersOnce (ExplanationReads r limits)
 explanations_once one r limits order =
-    reads_once explanation_of explain.Refused explanation_read explained_back (ExplanationAnswers r limits) IsOfExplanation (ExplanationReads r limits)
-    (explains_by r limits) of_explanation_by (λ text result other. one r limits text result other order)
+    reads_once explanation_of explain.Refused explanation_read explained_back (ExplanationAnswers r limits) (ExplanationReads r limits)
+    (explains_by r limits) (λ text result other. one r limits text result other order)
 
 -- ---- repairs
 
@@ -144,15 +137,7 @@ repairs_by s limits text (Ok accepted) h = h
 repairs_by s limits text (Err (Bad fault)) h = h
 repairs_by s limits text (Err (Work error)) h = h
 
-of_repair_by : (x : Repairing) → IsOfText x → IsOfRepair (by repair_of repair.Refused x)
-of_repair_by (Ok accepted) of = tt
-of_repair_by (Err (Bad fault)) of = tt
-of_repair_by (Err (Work work.ReadFault)) of = of
-of_repair_by (Err (Work work.WriteFault)) of = tt
-of_repair_by (Err (Work (work.TooLarge what))) of = tt
-of_repair_by (Err (Work work.NoMemory)) of = of
-
 pub repairs_once : HaveOneRepair → (s : SpaceView) (limits : Limits) → AnswersOnce (RepairReads s limits)
 repairs_once one s limits =
-    reads_once repair_of repair.Refused repair_read repaired_back (RepairAnswers s limits) IsOfRepair (RepairReads s limits)
-    (repairs_by s limits) of_repair_by (one s limits)
+    reads_once repair_of repair.Refused repair_read repaired_back (RepairAnswers s limits) (RepairReads s limits)
+    (repairs_by s limits) (one s limits)

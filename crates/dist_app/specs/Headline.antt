@@ -49,7 +49,7 @@ use Rattle.dist_commands.specs.CheckExplain.{explained_status}
 use Rattle.dist_commands.specs.CheckRepair.{repaired_status}
 use Rattle.dist_commands.specs.Claims.{IsReportOf, claims_status}
 use Rattle.dist_commands.specs.Explain.{header_on}
-use Rattle.dist_commands.specs.Follow.{AreToldBroken, IsFollowedWhole, StaysBroken}
+use Rattle.dist_commands.specs.Follow.{AreToldBroken, IsFollowedWhole, IsTrueLine, StaysBroken}
 use Rattle.dist_commands.specs.PackagesStage.{PackagesStage}
 use Rattle.dist_commands.specs.SpaceStage.{IsSpaceOfFile}
 use Rattle.dist_commands.specs.Stages.{Goes}
@@ -64,8 +64,20 @@ IsCarriedOut Done = Unit {0}
 IsCarriedOut DoneWithUndecided = Unit {0}
 IsCarriedOut status = ⊥
 
+-- What a mark promises, where the text is accepted. Its question is closed in the text behind at least as many derived
+-- lines as the limit, each of which follows and was new; and the limit is at most 3 to the power of the number of
+-- variables that the question reaches.
+pub record AreMarksRight (r : PackageList) (limits : Limits) (text : List ℕ) : Type 0 where
+  pub tried : (basis : Basis) (h : Header) (steps : List CertRecord)
+      → IsAcceptedAs (matter_of r basis) limits text h steps → AreMarksTried (matter_of r basis) h.kind h.limit steps
+  pub hard : (basis : Basis) (h : Header) (steps : List CertRecord) (question : List Word) (cone : List ℕ)
+      → IsAcceptedAs (matter_of r basis) limits text h steps → IsUndecidedIn steps question
+      → ((v : ℕ) → Contains cone v ↔ InCone (matter_of r basis).inputs (clause_of question) v)
+      → h.limit ≤ 3 ^ length cone
+
 -- PACKAGES has a repository, and CERT holds a whole certificate over it, of the command's kind, and with its mode and
--- limit. What it claims is true at that kind and mode, and its report was printed. All other files are as before.
+-- limit. What it claims is true at that kind and mode, its marks are right, and its report was printed. All other files
+-- are as before.
 pub record ProvesSweep (limits : Limits) (kind : CertKind) (packages cert : List ℕ) (essential : Bool) (limit : ℕ)
     (result : Status) (desk desk' : DeskView) (out out' : SinkView) : Type 0 where
   pub repository : PackageList
@@ -75,6 +87,7 @@ pub record ProvesSweep (limits : Limits) (kind : CertKind) (packages cert : List
   pub certificate : IsSweep repository kind essential limit limits made text
   pub files : desk'.files ≡ with_file desk.files cert text
   pub means : Means kind essential repository made
+  pub marks : AreMarksRight repository limits text
   pub report : List ℕ
   pub is_report : IsReportOf repository kind limit made report
   pub printed : Grew report out out'
@@ -82,7 +95,7 @@ pub record ProvesSweep (limits : Limits) (kind : CertKind) (packages cert : List
 
 -- PACKAGES has a repository, and the file CERT was accepted over it, whoever wrote it, with a first line and claims.
 -- The line has the numbers of what certificates of its kind and mode are judged by, what is claimed is true at its kind
--- and mode, and the report was printed. All files are as before.
+-- and mode, its marks are right, and the report was printed. All files are as before.
 pub record ProvesCheck (limits : Limits) (packages cert : List ℕ) (result : Status) (desk desk' : DeskView)
     (out out' : SinkView) : Type 0 where
   pub repository : PackageList
@@ -93,6 +106,7 @@ pub record ProvesCheck (limits : Limits) (packages cert : List ℕ) (result : St
   pub accepted : OfText (file_bytes desk.files cert) (λ text. IsCompleted repository limits text header made)
   pub files : desk'.files ≡ desk.files
   pub means : AcceptedMeans repository header made
+  pub marks : (text : List ℕ) → AreMarksRight repository limits text
   pub report : List ℕ
   pub is_report : IsReportOf repository header.kind header.limit made report
   pub printed : Grew report out out'
@@ -207,11 +221,11 @@ pub record ProvesMisfit (limits : Limits) (packages later : List ℕ) (desk desk
   pub printed : Grew (misfit_text misfit) out out'
   pub files : desk'.files ≡ desk.files
 
--- The file CERT was accepted over PACKAGES, the journal was followed to its end from the newest versions on, and this
--- was told: how many steps it has, how many packages are held then, and, where CERT is of kind challenged, which of
--- them a moved cluster breaks. Each line that names one holds after every further list of steps at whose end the
--- archive has the cluster at a version equal to the one in the line: no healthy installation of it, at the mode of
--- CERT, has the package. All files are as before.
+-- The file CERT was accepted over PACKAGES, its marks are right, the journal was followed to its end from the newest
+-- versions on, and this was told: how many steps it has, how many packages are held then, and, where CERT is of kind
+-- challenged, which of them a moved cluster breaks. Each line that names one is true, and holds after every further
+-- list of steps at whose end the archive has no package of the cluster's names at another version than the one in the
+-- line: no healthy installation of it, at the mode of CERT, has the package. All files are as before.
 pub record ProvesFollow (limits : Limits) (packages cert journal : List ℕ) (desk desk' : DeskView) (out out' : SinkView)
     : Type 0 where
   pub repository : PackageList
@@ -220,6 +234,7 @@ pub record ProvesFollow (limits : Limits) (packages cert journal : List ℕ) (de
   pub made : List Claim
   pub present : IsPresent desk.files cert
   pub accepted : OfText (file_bytes desk.files cert) (λ text. IsCompleted repository limits text header made)
+  pub marks : (text : List ℕ) → AreMarksRight repository limits text
   pub space : SpaceView
   pub is_space : IsSpaceOfFile header.essential repository space
   pub text : List ℕ
@@ -229,6 +244,7 @@ pub record ProvesFollow (limits : Limits) (packages cert journal : List ℕ) (de
   pub followed : IsFollowedWhole limits.stanzas space text archive count
   pub list : List Broken
   pub are_told : AreToldBroken header.kind space archive made list
+  pub true_lines : (broken : Broken) → Contains list broken → IsTrueLine space archive broken
   pub stay : (broken : Broken) → Contains list broken → StaysBroken space archive broken
   pub printed : Grew (follow_text space archive count list) out out'
   pub files : desk'.files ≡ desk.files
@@ -282,19 +298,3 @@ abbrev pub FollowIsProved : List (List ℕ) → Limits → Status → DeskView �
 FollowIsProved words limits result desk desk' out out' = (packages cert journal : List ℕ)
     → command_of words ≡ Some (Follow packages cert journal) → result ≡ Done
     → ProvesFollow limits packages cert journal desk desk' out out'
-
--- A question that an accepted text leaves undecided is hard: its limit is at most 3 to the power of the number of
--- variables that it reaches.
-abbrev pub UndecidedAreHard : Limits → Type 0
-UndecidedAreHard limits = (r : PackageList) (basis : Basis) (text : List ℕ) (h : Header)
-    (steps : List CertRecord) (question : List Word) (cone : List ℕ)
-    → IsAcceptedAs (matter_of r basis) limits text h steps → IsUndecidedIn steps question
-    → ((v : ℕ) → Contains cone v ↔ InCone (matter_of r basis).inputs (clause_of question) v)
-    → h.limit ≤ 3 ^ length cone
-
--- What an accepted text leaves undecided was tried: each mark's question is closed in the text behind at least as many
--- derived lines as the limit, each of which follows and was new.
-abbrev pub MarksAreTried : Limits → Type 0
-MarksAreTried limits = (r : PackageList) (basis : Basis) (text : List ℕ) (h : Header)
-    (steps : List CertRecord) → IsAcceptedAs (matter_of r basis) limits text h steps
-    → AreMarksTried (matter_of r basis) h.kind h.limit steps

@@ -4,10 +4,14 @@ use Rattle.dist_outside.specs.declared.limits.Limits.{Limits}
 use Rattle.dist_outside.specs.declared.trouble.What.{What}
 use Rattle.dist_outside.specs.declared.trouble.WorkError.{WorkError}
 use Rattle.dist_clause.specs.Formula.{Literal}
+use Rattle.dist_cluster.specs.Partition.{IsPartition}
+use Rattle.dist_cluster.specs.Relation.{Member}
+use Rattle.dist_cluster.specs.Top.{IsTop}
 use Rattle.dist_repo.specs.Order.{IsInOrder}
 use Rattle.dist_repo.specs.PackageList.{PackageList}
 use Rattle.dist_repo.specs.declared.package.Package.{Package}
 use Rattle.dist_package.specs.OneAnswer.{HasOneAnswer}
+use Rattle.dist_classes.specs.Cuts.{AreCuts, IsClusterCut}
 use Rattle.dist_list.specs.NamedPackage.{IsNamed}
 use Rattle.dist_list.specs.OneAnswer.{HasOneAnswer as ListHasOneAnswer}
 use Rattle.dist_now.specs.Health.{IsHealth}
@@ -26,46 +30,58 @@ use Rattle.dist_findings.specs.Answers.{IsAnswered as IsAnsweredFile}
 use Rattle.dist_inquiry.specs.Written.{IsFull as IsFullText}
 use Rattle.dist_explain.specs.ExplanationFiles.{PassesFirst as ExplainPasses}
 use Rattle.dist_explain.specs.Verdicts.{AcceptedMeans as ExplanationMeans, ExplanationAnswers, IsExplanation}
-use Rattle.dist_explain.specs.Verdicts.{IsOfText as IsOfExplanation}
 use Rattle.dist_explain.specs.declared.explained.Explained.{Explained}
 use Rattle.dist_explain.specs.declared.verdict.ExplainHeader.{ExplainHeader}
 use Rattle.dist_explain.specs.declared.verdict.ExplainVerdict.{ExplainVerdict}
 use Rattle.dist_explain_search.specs.ExplainAnswers.{OfExplain}
 use Rattle.dist_repair.specs.Answered.{Answers as AnswersRepair}
 use Rattle.dist_repair.specs.RepairFiles.{asked_by, repair_files}
-use Rattle.dist_repair.specs.Verdicts.{AcceptedSays, IsHeaderOf, IsOfText as IsOfRepair, RepairAnswers}
+use Rattle.dist_repair.specs.Verdicts.{AcceptedSays, IsHeaderOf, RepairAnswers}
 use Rattle.dist_repair.specs.declared.repair.Repair.{Repair}
 use Rattle.dist_repair.specs.declared.verdict.RepairHeader.{RepairHeader}
 use Rattle.dist_repair.specs.declared.verdict.RepairVerdict.{RepairVerdict}
 use Rattle.dist_repair_search.specs.SearchAnswers.{OfRepair}
 use Rattle.dist_budget.specs.Budget.{IsBelowBudget, IsBelowFileBudget}
 use Rattle.dist_budget.specs.SearchBudget.{explanation_size, repair_size}
-use Rattle.dist_check.specs.Answers.{Answers, IsOfText as IsOfCertificate}
+use Rattle.dist_check.specs.Answers.{Answers}
+use Rattle.dist_judge.specs.Causes.{IsOfText}
 use Rattle.dist_check.specs.Means.{Means}
 use Rattle.dist_check.specs.declared.verdict.Verdict.{Verdict}
 use Rattle.dist_journal.specs.OneEnd.{HasOneEnd}
 use Rattle.dist_commands.specs.OneSpaceLaws.{HaveOneNewest, HaveOneSpace, HaveSpaceOnce}
-use Rattle.dist_app.specs.Headline.{MarksAreTried, UndecidedAreHard}
+use Rattle.dist_app.specs.Headline.{AreMarksRight}
 
 -- ---- each input has one answer
 
 -- each text of a certificate has one answer
 abbrev pub HaveOneAnswer : Type 0
 HaveOneAnswer = (r : PackageList) (limits : Limits) (text : List ℕ) (result other : Result Verdict WorkError)
-    → IsInOrder r.packages → Answers r limits text result → Answers r limits text other → IsOfCertificate result
-    → IsOfCertificate other → other ≡ result
+    → IsInOrder r.packages → Answers r limits text result → Answers r limits text other → IsOfText result
+    → IsOfText other → other ≡ result
+
+-- the packages of a list have one partition into clusters, each cluster has one top, and one list of cuts
+abbrev pub HaveOnePartition : Type 0
+HaveOnePartition = (members : List Member) (a b : List (List ℕ)) → IsPartition members a → IsPartition members b
+    → a ≡ b
+
+abbrev pub HaveOneTop : Type 0
+HaveOneTop = (members : List Member) (cluster a b : List ℕ) → IsTop members cluster a → IsTop members cluster b → a ≡ b
+
+abbrev pub HaveOneCuts : Type 0
+HaveOneCuts = (r : PackageList) (members top : List ℕ) (a b : List (List ℕ)) → AreCuts (IsClusterCut r members top) a
+    → AreCuts (IsClusterCut r members top) b → a ≡ b
 
 -- each text of an explanation's file has one answer
 abbrev pub HaveOneExplanation : Type 0
 HaveOneExplanation = (r : PackageList) (limits : Limits) (text : List ℕ)
     (result other : Result ExplainVerdict WorkError) → IsInOrder r.packages
-    → ExplanationAnswers r limits text result → ExplanationAnswers r limits text other → IsOfExplanation result
-    → IsOfExplanation other → other ≡ result
+    → ExplanationAnswers r limits text result → ExplanationAnswers r limits text other → IsOfText result
+    → IsOfText other → other ≡ result
 
 -- each text of a repair's file has one answer
 abbrev pub HaveOneRepair : Type 0
 HaveOneRepair = (s : SpaceView) (limits : Limits) (text : List ℕ) (result other : Result RepairVerdict WorkError)
-    → RepairAnswers s limits text result → RepairAnswers s limits text other → IsOfRepair result → IsOfRepair other
+    → RepairAnswers s limits text result → RepairAnswers s limits text other → IsOfText result → IsOfText other
     → other ≡ result
 
 -- one number is passed first
@@ -95,7 +111,7 @@ HaveOneEnd = (s : SpaceView) (limit : ℕ) (journal : List ℕ) (old : List Pack
 
 -- each Packages text has one repository or one error, each LIST one set or one first bad line, each CERT one answer, as
 -- a certificate and as a file of an explanation, and of what a sweep is judged by one number is passed first; each file
--- has one space at a mode, and each journal one end
+-- has one space at a mode, its clusters, their tops and their cuts are one, and each journal has one end
 pub record AreExact : Type 0 where
   pub packages : (text : List ℕ) (limit : ℕ) → HasOneAnswer text limit
   pub lists : (packages : List Package) (text : List ℕ) → ListHasOneAnswer packages text
@@ -107,6 +123,9 @@ pub record AreExact : Type 0 where
   pub spaces : HaveOneSpace
   pub newest : HaveOneNewest
   pub space_of : HaveSpaceOnce
+  pub partitions : HaveOnePartition
+  pub tops : HaveOneTop
+  pub cuts : HaveOneCuts
   pub clauses : HaveOneClauses
   pub repairs : HaveOneRepair
   pub journals : HaveOneEnd
@@ -156,6 +175,10 @@ RepairsHold = (s : SpaceView) (limits : Limits) (text numbers : List ℕ) (h : R
     → IsAnsweredFile (repair_files s) limits text numbers (λ found. AnswersRepair s (asked_by numbers) found repair)
     → AcceptedSays s h repair
 
+-- what the marks of an accepted certificate promise holds
+abbrev pub MarksAreRight : Type 0
+MarksAreRight = (r : PackageList) (limits : Limits) (text : List ℕ) → AreMarksRight r limits text
+
 -- ---- all
 
 pub record Laws : Type 0 where
@@ -167,5 +190,4 @@ pub record Laws : Type 0 where
   pub claims : ClaimsHold
   pub explanations : ExplanationsHold
   pub repairs : RepairsHold
-  pub hard : (limits : Limits) → UndecidedAreHard limits
-  pub tried : (limits : Limits) → MarksAreTried limits
+  pub marks : MarksAreRight

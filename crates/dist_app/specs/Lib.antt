@@ -4,3 +4,4 @@ pub mod Headline
 pub mod LawsPrivate
 pub mod Run
 pub mod Stopped
+pub mod Truth

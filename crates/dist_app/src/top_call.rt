@@ -1,11 +1,11 @@
 //! The top call.
-ghost use Rattle.std.specs.Prelude.{◌≡◌, ℕ, List, map, string_bytes, MatchResult};
+ghost use Rattle.std.specs.Prelude.{map, string_bytes, MatchResult};
 ghost use Rattle.dist_outside.specs.Files.{IsNotWriting};
 ghost use Rattle.dist_commands.specs.StatedLimits.{IsWithinStated, stated_limits};
-ghost use Rattle.dist_app.specs.Complete.{IsComplete};
-ghost use Rattle.dist_app.specs.Headline.{CheckExplainIsProved, CheckIsProved, CheckRepairIsProved, ExplainIsProved, FollowIsProved, MarksAreTried, RepairIsProved, StepsAreProved, SweepIsProved, UndecidedAreHard};
+ghost use Rattle.dist_app.specs.Headline.{CheckExplainIsProved, CheckIsProved, CheckRepairIsProved, ExplainIsProved, FollowIsProved, RepairIsProved, StepsAreProved, SweepIsProved};
 ghost use Rattle.dist_app.specs.Run.{Leaves, Runs};
 ghost use Rattle.dist_app.specs.Stopped.{StopsLow};
+ghost use Rattle.dist_app.specs.Truth.{IsTrue};
 ghost use Rattle.dist_app.specs.CarriedPrivate.{IsAnswered, IsRefused, Prints};
 
 use crate::laws::laws_hold;
@@ -27,6 +27,7 @@ pub fn run<D: Desk, W: Sink, E: Sink>(
     requires { IsNotWriting (D.view desk.old).mode }
     ensures runs { Runs (map string_bytes words.now) stated_limits result (D.view desk.old) (D.view desk.new)
         (W.view out.old) (W.view out.new) (E.view err.old) (E.view err.new) }
+    ensures truth { IsTrue (map string_bytes words.now) stated_limits result (D.view desk.old).files (W.view out.old) (W.view out.new) }
     ensures sweep { SweepIsProved (map string_bytes words.now) stated_limits result (D.view desk.old) (D.view desk.new)
         (W.view out.old) (W.view out.new) }
     ensures check { CheckIsProved (map string_bytes words.now) stated_limits result (D.view desk.old) (D.view desk.new)
@@ -43,11 +44,7 @@ pub fn run<D: Desk, W: Sink, E: Sink>(
         (W.view out.old) (W.view out.new) }
     ensures follow { FollowIsProved (map string_bytes words.now) stated_limits result (D.view desk.old) (D.view desk.new)
         (W.view out.old) (W.view out.new) }
-    ensures complete { IsComplete (map string_bytes words.now) stated_limits result (D.view desk.old) (D.view desk.new)
-        (W.view out.old) (W.view out.new) }
     ensures stopped { StopsLow (map string_bytes words.now) stated_limits result (D.view desk.old).files (D.view desk.new).files }
-    ensures hard { UndecidedAreHard stated_limits }
-    ensures tried { MarksAreTried stated_limits }
 {
     run_with(alloc, words, desk, out, err, &Limits::stated())
 }
@@ -65,6 +62,7 @@ pub fn run_with<D: Desk, W: Sink, E: Sink>(
     requires within { IsWithinStated limits.now }
     ensures runs { Runs (map string_bytes words.now) limits.now result (D.view desk.old) (D.view desk.new)
         (W.view out.old) (W.view out.new) (E.view err.old) (E.view err.new) }
+    ensures truth { IsTrue (map string_bytes words.now) limits.now result (D.view desk.old).files (W.view out.old) (W.view out.new) }
     ensures sweep { SweepIsProved (map string_bytes words.now) limits.now result (D.view desk.old) (D.view desk.new)
         (W.view out.old) (W.view out.new) }
     ensures check { CheckIsProved (map string_bytes words.now) limits.now result (D.view desk.old) (D.view desk.new)
@@ -81,11 +79,7 @@ pub fn run_with<D: Desk, W: Sink, E: Sink>(
         (W.view out.old) (W.view out.new) }
     ensures follow { FollowIsProved (map string_bytes words.now) limits.now result (D.view desk.old) (D.view desk.new)
         (W.view out.old) (W.view out.new) }
-    ensures complete { IsComplete (map string_bytes words.now) limits.now result (D.view desk.old) (D.view desk.new)
-        (W.view out.old) (W.view out.new) }
     ensures stopped { StopsLow (map string_bytes words.now) limits.now result (D.view desk.old).files (D.view desk.new).files }
-    ensures hard { UndecidedAreHard limits.now }
-    ensures tried { MarksAreTried limits.now }
 {
     // What this call tells is what the promises rest on.
     laws_hold();

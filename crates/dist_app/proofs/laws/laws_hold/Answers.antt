@@ -14,6 +14,9 @@ returns c = record {
     spaces = one-space c.latest_is_one.ensures.one c.spaces_are_one.ensures;
     newest = c.latest_is_one.ensures.one;
     space_of = c.spaces_are_one.ensures;
+    partitions = c.partitions_are_one.ensures.one;
+    tops = c.tops_are_one.ensures.one;
+    cuts = c.cuts_are_one.ensures.cluster;
     clauses = c.space_clauses_are_one.ensures;
     repairs = c.repairs_have_one_answer.ensures;
     journals = c.journals_have_one_end.ensures;
@@ -25,6 +28,8 @@ returns c = record {
   claims = c.accepted_claims_hold.ensures;
   explanations = c.accepted_explanations_hold.ensures;
   repairs = c.accepted_repairs_hold.ensures;
-  hard = λ limits r basis. c.undecided_questions_are_hard.ensures r basis limits;
-  tried = λ limits r basis. c.marks_are_tried.ensures r basis limits;
+  marks = λ r limits text. record {
+    tried = λ basis h steps. c.marks_are_tried.ensures r basis limits text h steps;
+    hard = λ basis h steps question cone. c.undecided_questions_are_hard.ensures r basis limits text h steps question cone;
+  };
 }

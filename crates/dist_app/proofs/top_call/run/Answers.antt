@@ -1,8 +1,8 @@
 use Rattle.std.proofs.Common.{Global, map, string_bytes, subst}
 use Rattle.dist_outside.specs.declared.limits.Limits.{Limits}
-use Rattle.dist_app.specs.Headline.{CheckExplainIsProved, CheckRepairIsProved, ExplainIsProved, FollowIsProved, RepairIsProved}
-use Rattle.dist_app.specs.Headline.{MarksAreTried, StepsAreProved, UndecidedAreHard}
+use Rattle.dist_app.specs.Headline.{CheckExplainIsProved, CheckRepairIsProved, ExplainIsProved, FollowIsProved, RepairIsProved, StepsAreProved}
 use Rattle.dist_app.specs.Stopped.{StopsLow}
+use Rattle.dist_app.specs.Truth.{IsTrue}
 use Rattle.dist_app.proofs.top_call.run.Goals as goal
 
 pub returns-clause-check_explain : goal.returns-clause-check_explain
@@ -44,8 +44,7 @@ returns-clause-stopped g c =
     subst (λ (limits : Limits). StopsLow (map (string_bytes {Z = Global}) c.args.words.now) limits c.run_with.result
     (g.D.Desk.view c.args.desk.now).files (g.D.Desk.view c.run_with.new.desk).files) c.stated.ensures c.run_with.ensures.stopped
 
-pub returns-clause-hard : goal.returns-clause-hard
-returns-clause-hard g c = subst UndecidedAreHard c.stated.ensures c.run_with.ensures.hard
-
-pub returns-clause-tried : goal.returns-clause-tried
-returns-clause-tried g c = subst MarksAreTried c.stated.ensures c.run_with.ensures.tried
+pub returns-clause-truth : goal.returns-clause-truth
+returns-clause-truth g c =
+    subst (λ (limits : Limits). IsTrue (map (string_bytes {Z = Global}) c.args.words.now) limits c.run_with.result
+    (g.D.Desk.view c.args.desk.now).files (g.W.Sink.view c.args.out.now) (g.W.Sink.view c.run_with.new.out)) c.stated.ensures c.run_with.ensures.truth

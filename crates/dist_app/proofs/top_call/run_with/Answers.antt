@@ -1,7 +1,7 @@
-use Rattle.dist_app.proofs.Completes.{run_completes}
 use Rattle.dist_app.proofs.Headlines.{check_explain_proved, check_proved, check_repair_proved, explain_proved, follow_proved, repair_proved}
 use Rattle.dist_app.proofs.Headlines.{steps_proved, sweep_proved}
 use Rattle.dist_app.proofs.Stopped.{stops-low}
+use Rattle.dist_app.proofs.Truths.{run-is-true}
 use Rattle.dist_app.proofs.top_call.run_with.Goals as goal
 
 pub returns-clause-runs : goal.returns-clause-runs
@@ -11,12 +11,13 @@ pub returns-clause-sweep : goal.returns-clause-sweep
 returns-clause-sweep g c =
     sweep_proved _ c.args.limits.now c.finish.result (g.D.Desk.view c.args.desk.now) (g.D.Desk.view c.finish.new.desk) (g.W.Sink.view c.args.out.now)
     (g.W.Sink.view c.finish.new.out) (g.E.Sink.view c.args.err.now) (g.E.Sink.view c.finish.new.err) c.finish.ensures
-    c.laws_hold.ensures.claims
+    c.laws_hold.ensures.claims c.laws_hold.ensures.marks
 
 pub returns-clause-check : goal.returns-clause-check
 returns-clause-check g c =
     check_proved _ c.args.limits.now c.finish.result (g.D.Desk.view c.args.desk.now) (g.D.Desk.view c.finish.new.desk) (g.W.Sink.view c.args.out.now)
     (g.W.Sink.view c.finish.new.out) (g.E.Sink.view c.args.err.now) (g.E.Sink.view c.finish.new.err) c.finish.ensures
+    c.laws_hold.ensures.marks
 
 pub returns-clause-explain : goal.returns-clause-explain
 returns-clause-explain g c =
@@ -49,19 +50,14 @@ pub returns-clause-follow : goal.returns-clause-follow
 returns-clause-follow g c =
     follow_proved _ c.args.limits.now c.finish.result (g.D.Desk.view c.args.desk.now) (g.D.Desk.view c.finish.new.desk) (g.W.Sink.view c.args.out.now)
     (g.W.Sink.view c.finish.new.out) (g.E.Sink.view c.args.err.now) (g.E.Sink.view c.finish.new.err) c.finish.ensures
+    c.laws_hold.ensures.marks
 
-pub returns-clause-complete : goal.returns-clause-complete
-returns-clause-complete g c =
-    run_completes c.laws_hold.ensures _ c.args.limits.now c.finish.result (g.D.Desk.view c.args.desk.now) (g.D.Desk.view c.finish.new.desk)
+pub returns-clause-truth : goal.returns-clause-truth
+returns-clause-truth g c =
+    run-is-true c.laws_hold.ensures _ c.args.limits.now c.finish.result (g.D.Desk.view c.args.desk.now) (g.D.Desk.view c.finish.new.desk)
     (g.W.Sink.view c.args.out.now) (g.W.Sink.view c.finish.new.out) (g.E.Sink.view c.args.err.now) (g.E.Sink.view c.finish.new.err) c.finish.ensures
 
 pub returns-clause-stopped : goal.returns-clause-stopped
 returns-clause-stopped g c =
     stops-low c.laws_hold.ensures _ c.args.limits.now c.finish.result (g.D.Desk.view c.args.desk.now) (g.D.Desk.view c.finish.new.desk)
     (g.W.Sink.view c.args.out.now) (g.W.Sink.view c.finish.new.out) (g.E.Sink.view c.args.err.now) (g.E.Sink.view c.finish.new.err) c.finish.ensures
-
-pub returns-clause-hard : goal.returns-clause-hard
-returns-clause-hard g c = c.laws_hold.ensures.hard c.args.limits.now
-
-pub returns-clause-tried : goal.returns-clause-tried
-returns-clause-tried g c = c.laws_hold.ensures.tried c.args.limits.now
