@@ -60,7 +60,7 @@ pub(crate) fn ask(solver: &mut Solver, assumptions: &[Lit]) -> Result<Answer, Al
     ensures variables { solver.new.log.variables ≡ solver.old.log.variables }
     ensures right { IfOk result (IsRight solver.old.log assumptions.now) }
 {
-    let _within = solver.log().inputs();
+    solver.log().keeps_invariant();
     match solver.ask(assumptions, DEFAULT_LIMIT) {
         Ok(answer) => Ok(answer),
         Err(AskError::NoMemory) => Err(AllocError),
@@ -106,7 +106,7 @@ fn ask_package(
     ensures variables { solver.new.log.variables ≡ solver.old.log.variables }
     ensures more { IfOk result (λ more. (total counts < total more) × (total more ≤ total counts + solver.old.log.variables + 1)) }
 {
-    let _stated = solver.log().variables();
+    solver.log().keeps_invariant();
     let answer = ask(solver, &[Lit::new(package, true)])?;
     let counts = counts.with(&answer);
     if let Answer::Found(members) = &answer {

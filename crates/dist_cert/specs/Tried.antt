@@ -21,7 +21,7 @@ EachFollows matter before since = (front : List CertRecord) (literals : List Wor
     → Follows (numbered matter (before ++ front)) (clause_of literals) hints
 
 -- The question is opened, and closed by `u` behind at least so many derived lines. Each of them follows by its hints,
--- and none of them was not new under the question's assumptions when it came.
+-- and was new under the question's assumptions when it came.
 pub record IsTried (matter : Matter) (limit : ℕ) (steps : List CertRecord) (question : List Word) : Type 0 where
   pub earlier : List CertRecord
   pub since : List CertRecord
@@ -30,7 +30,7 @@ pub record IsTried (matter : Matter) (limit : ℕ) (steps : List CertRecord) (qu
   pub left_open : AllPass leaves_open since
   pub enough : limit ≤ length (derived since)
   pub follow : EachFollows matter (earlier ++ lines.Question question ∷ []) since
-  pub new : ¬ ¬ EachIsNew (numbered matter earlier) (length matter.inputs) (clause_of question) (derived since)
+  pub new : EachIsNew (numbered matter earlier) (length matter.inputs) (clause_of question) (derived since)
 
 -- The questions of the marks of a claim, which has a number from 0: its own where it is undecided, or one for each
 -- package or pair that it leaves undecided.

@@ -1,5 +1,5 @@
 //! The text of records and headers, added to the end of a vector.
-ghost use Rattle.std.specs.Prelude.{◌≡◌, [], ◌∷◌, ◌++◌, map, OnOk};
+ghost use Rattle.std.specs.Prelude.{◌≡◌, [], ◌∷◌, ◌++◌, OnOk};
 ghost use Rattle.dist_cert.specs.Form.{words_text, signed_text, plains, pair_words, separator, letter, words, record_text, kind_text, mode_text, header_text};
 ghost use Rattle.dist_cert.specs.Writing.{ended};
 

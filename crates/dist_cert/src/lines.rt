@@ -1,5 +1,5 @@
 //! The line of a file that is being read, and what came behind it.
-ghost use Rattle.std.specs.Prelude.{◌≡◌, ◌≢◌, ◌+◌, ◌^◌, ◌<◌, ◌≤◌, [], ◌∷◌, true, false, ℕ, List, length, drop, IfOk, IfErr, OnOk, OnErr};
+ghost use Rattle.std.specs.Prelude.{◌≡◌, ◌+◌, ◌^◌, ◌<◌, ◌≤◌, [], ◌∷◌, true, false, ℕ, List, length, drop, IfOk, IfErr};
 ghost use Rattle.dist_base.specs.Ascii.{line_feed};
 ghost use Rattle.dist_outside.specs.Files.{IsReading};
 ghost use Rattle.dist_outside.specs.DeskView.{OnlyReads};

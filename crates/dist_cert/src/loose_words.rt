@@ -1,6 +1,6 @@
 //! The words of a line, read without a test of their form: a line that is no text of words gives some words all the same.
 //! They are read one after another and put straight into the lists of a record, so that a long line is kept once.
-ghost use Rattle.std.specs.Prelude.{◌≡◌, ◌<◌, ◌++◌, length, IfOk, OnOk};
+ghost use Rattle.std.specs.Prelude.{◌≡◌, ◌<◌, IfOk, OnOk};
 ghost use Rattle.dist_cert.specs.DecodedPrivate as of;
 ghost use Rattle.dist_cert.specs.LooseWords.{with_byte, loose_words, IsWord, Gives, GivesListed};
 

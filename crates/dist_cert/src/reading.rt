@@ -105,6 +105,13 @@ impl Reader {
         self.done.lines
     }
 
+    /// No more bytes were given than a certificate may have. Does nothing.
+    pub fn keeps_invariant(&self)
+        ensures { self.now.given ≤ self.now.limits.certificate }
+    {
+        self.lines();
+    }
+
     /// The first line. It is asked for before any other.
     pub fn header<D: Desk>(&mut self, desk: &mut D) -> Result<Header, ReadCertError>
         requires { IsReading (D.view desk.old).mode }

@@ -1,5 +1,5 @@
 //! The rules of a line on its own.
-ghost use Rattle.std.specs.Prelude.{◌≡◌, ◌≢◌, ◌<◌, ◌↔◌, map, AllPairs, IsTrue, IfOk, OnOk};
+ghost use Rattle.std.specs.Prelude.{◌≡◌, ◌<◌, ◌↔◌, map, AllPairs, IsTrue, IfOk, OnOk};
 ghost use Rattle.dist_cert.specs.Form.{AreFromOne, AreLiterals, ArePairs, KeepsRules};
 
 use crate::records::CertRecord;

@@ -92,7 +92,7 @@ fn challenged_line(
     ensures refuted { IfOk result (λ both. AreSmallPairs (map (pair_at space.now) group.now.refuted)) }
     ensures undecided { IfOk result (λ both. AreSmallPairs (map (pair_at space.now) group.now.undecided)) }
 {
-    let _count = window.count();
+    window.keeps_invariant();
     let claimed = group.claimed();
     let refuted = pairs_of(alloc, space, group.refuted())?;
     let undecided = pairs_of(alloc, space, group.undecided())?;
@@ -205,7 +205,7 @@ impl ChallengedClaimant {
     {
         file_grows();
         pairs_are_of_the_space();
-        let _space = self.covering.space();
+        self.covering.keeps_invariant();
         let package = group.claimed();
         match self.ask_today(asker, window, desk, group.present())? {
             Reply::Found(values) => {
@@ -249,9 +249,9 @@ impl ChallengedClaimant {
     {
         file_grows();
         pairs_are_of_the_space();
-        let _space = self.covering.space();
+        self.covering.keeps_invariant();
         let earlier = window.count();
-        let _kept = window.len();
+        window.keeps_invariant();
         self.ask_pairs(asker, window, desk, group, true)?;
         let taken = self.covering.take_up_behind(window, group, earlier, today)?;
         if taken {
@@ -284,8 +284,8 @@ impl ChallengedClaimant {
     {
         file_grows();
         pairs_are_of_the_space();
-        let _space = self.covering.space();
-        let _kept = window.len();
+        self.covering.keeps_invariant();
+        window.keeps_invariant();
         if let Some(mut group) = self.covering.known_group(window, package, present, today)? {
             return self.claim_group(asker, window, desk, &mut group);
         }
@@ -338,7 +338,7 @@ impl ChallengedClaimant {
         ensures space { self.new.covering.space ≡ self.old.covering.space }
         ensures grows { Grows (D.view desk.old) (D.view desk.new) }
     {
-        let _space = self.covering.space();
+        self.covering.keeps_invariant();
         let present = self.variable(package);
         match self.covering.today_in(window, present) {
             Some(today) => self.claim_known(asker, window, desk, package, present, today),

@@ -38,7 +38,7 @@ impl ChallengedClaimant {
     {
         file_grows();
         pairs_are_of_the_space();
-        let _space = self.covering.space();
+        self.covering.keeps_invariant();
         match ask_both(self.alloc, asker, desk, group.present(), at, &[])? {
             Reply::Found(values) => {
                 self.covering.add(window, values)?;

@@ -36,8 +36,7 @@ pub fn challenged<D: Desk>(
     ensures first { TellsFirst repo.now Challenged essential limits.now result }
 {
     first_numbers_are_one();
-    // The packages of a repository are in order.
-    let _packages = repo.len();
+    repo.keeps_invariant();
     let inputs = later_inputs(alloc, repo, essential, limits)?;
     let over = SweepInputs {
         kind: CertKind::Challenged,

@@ -112,9 +112,16 @@ impl Covering {
         ensures is_space { IsSpace self.now.space }
         ensures few { length self.now.space.repository.packages < 2 ^ 32 }
     {
-        let _variables = self.space.variables();
-        let _packages = self.space.package_count();
+        self.space.keeps_invariant();
         &self.space
+    }
+
+    /// The space is one, with fewer packages than 32 bits can number. Does nothing.
+    pub fn keeps_invariant(&self)
+        ensures space { IsSpace self.now.space }
+        ensures packages { length self.now.space.repository.packages < 2 ^ 32 }
+    {
+        self.space();
     }
 
     /// Adds an installation as the latest one.

@@ -24,7 +24,7 @@ impl Covering {
             → All (λ at. cluster + 1 < (pair_at self.now.space at).0) ats.old.items
             → IsGathering self.now window.now own number cluster 0 ats.old.items ats.new.items) }
     {
-        let _space = self.space();
+        self.keeps_invariant();
         let classes = self.space.class_count(cluster);
         for back in 0..classes {
             let at = self
@@ -53,7 +53,7 @@ impl Covering {
         ensures all { clusters ≡ length (used_by self.now window.now number)
             → IfOk result (λ ats. AreOpen self.now window.now (slice_index self.now.space.cluster_of («package» - 1)) (number ∷ []) ats.items) }
     {
-        let _space = self.space();
+        self.keeps_invariant();
         let own = self.space.cluster_of(package - 1);
         let used = self.used_by(window, number);
         let mut ats = Vec::new(self.alloc);

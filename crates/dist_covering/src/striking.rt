@@ -41,7 +41,7 @@ impl Covering {
             → IsPlan self.now window.now present own today start (number - 1) named.new.items ats.new.items) }
         ensures inside { OnOk result (All (λ at. (1 ≤ at) × (at ≤ length self.now.space.meanings)) ats.new.items) }
     {
-        let _kept = window.len();
+        window.keeps_invariant();
         let left = self.left_by(window, number, ats)?;
         if left.len() < ats.len() && lasts(window, left.len(), number) {
             named.push(number)?;

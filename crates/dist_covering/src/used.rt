@@ -58,7 +58,7 @@ fn cluster_at(space: &Space, variable: u32) -> Option<u32>
     ensures within { IfSome result (λ cluster. cluster < length space.now.clusters.members) }
     ensures few { length space.now.clusters.members < 2 ^ 32 }
 {
-    let _clusters = space.clusters().len();
+    space.keeps_invariant();
     match space.meaning(variable) {
         Meaning::Present(member) => Some(space.cluster_of(member)),
         Meaning::New(member, _) => Some(space.cluster_of(member)),
@@ -76,10 +76,10 @@ pub fn pair_at(space: &Space, variable: u32) -> (u32, u32)
     ensures value { result ≡ pair_at space.now variable }
     ensures small { IsSmall result.0 × IsSmall result.1 }
 {
-    let _clusters = space.clusters().len();
+    space.keeps_invariant();
     match space.meaning(variable) {
         Meaning::At(cluster, class) => {
-            let _classes = space.class_count(cluster);
+            space.classes_are_few(cluster);
             (cluster + 1, class + 1)
         }
         _ => (0, 0),
@@ -127,7 +127,7 @@ pub(crate) fn used_clusters(
     requires { length values.now ≡ length space.now.meanings }
     ensures { IfOk result (AreUsed space.now values.now) }
 {
-    let _variables = space.variables();
+    space.keeps_invariant();
     let clusters = space.clusters().len();
     let flags = used_flags(alloc, space, values)?;
     let used = true_variables(alloc, &flags, clusters)?;

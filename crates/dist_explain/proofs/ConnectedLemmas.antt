@@ -5,7 +5,7 @@ use Rattle.std.proofs.Common.{refl, sym, ap, subst, ◌∙◌, arith, get_or-set
 use Rattle.std.specs.Prelude.{All, Any, Contains, IsSomeAnd}
 use Rattle.std.proofs.lemmas.Bool.{cases_eq, false≢true}
 use Rattle.std.proofs.lemmas.List.Elements.{All-contains}
-use Rattle.dist_base.specs.ListLaws.{all-contained, any-contained, any-there, at-has, contains-at, element-at, here-at, place-of, same-at, within-from}
+use Rattle.dist_base.specs.ListLaws.{any-contained, any-there, at-has, contains-at, element-at, here-at, place-of, same-at, within-from}
 use Rattle.dist_clause.specs.Formula.{value_of}
 use Rattle.dist_relation.specs.declared.atom.Atom.{Atom}
 use Rattle.dist_repo.specs.DecidedLaws.{met-decided}
@@ -14,7 +14,7 @@ use Rattle.dist_repo.specs.Match.{Matches}
 use Rattle.dist_repo.specs.PackageList.{IsPackageAnd, PackageList}
 use Rattle.dist_repo.specs.declared.package.Package.{Package}
 use Rattle.dist_now.specs.Members.{members_of}
-use Rattle.dist_now.specs.PresentClauses.{Demand, Item, Apart, Required, IsItemAnd, IsMetBy}
+use Rattle.dist_now.specs.PresentClauses.{Demand, Item, Apart, Required, IsMetBy}
 use Rattle.dist_now.specs.Relations.{AreMembersByValues, AreOf, AreRelations, AreValuesOf, Fails}
 use Rattle.dist_explain.specs.Explanation.{AreConnected, AsksFor, Explain, FailsNumber, IsNeeded, IsOfNumber, IsOn, IsRelation}
 

@@ -27,7 +27,6 @@ use Rattle.dist_line_check.specs.ModelLaws.{WhatFollows, sound-rule}
 use Rattle.dist_line_check.specs.ToldLaws.{most-told, stable}
 use Rattle.dist_explain.specs.Answered.{Answers, AreAnswered}
 use Rattle.dist_explain.specs.ExplanationFiles.{AreNumbersFor, AreSelectedInputs, asked_by, explanation_files}
-use Rattle.dist_explain.specs.ExplanationFiles.{number_at}
 use Rattle.dist_explain.specs.NotesPrivate.{AreNotesOf, NotesView}
 use Rattle.dist_explain.specs.Selectors.{IsSelectedSet, selected, selected_clauses}
 use Rattle.dist_explain.specs.Verdicts.{AcceptedMeans, IsExplanation, IsTrueOf, header_by}
@@ -38,7 +37,7 @@ use Rattle.dist_explain.proofs.AcceptedLemmas.{answer-decided, answer-true}
 use Rattle.dist_explain.proofs.MeaningLemmas.{IsAsked, Known}
 use Rattle.dist_explain.proofs.SelectedLemmas.{length-selected}
 use Rattle.dist_explain.proofs.WholeLemmas.{whole-decided, whole-fits, whole-sound}
-use Rattle.dist_findings.specs.AnswerFiles.{files_of, limit_of}
+use Rattle.dist_findings.specs.AnswerFiles.{files_of, limit_of, number_at}
 use Rattle.dist_findings.specs.Answers.{IsAnswered}
 use Rattle.dist_findings.specs.FilesClearLaws.{clear_files}
 use Rattle.dist_findings.specs.Findings.{findings}

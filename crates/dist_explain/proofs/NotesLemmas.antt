@@ -1,17 +1,16 @@
 -- What is noted of findings, with one finding more, and what it answers.
 use Rattle.std.proofs.Common.{◌≡◌, ◌≢◌, ◌⊎◌, ◌↔◌, inl, inr, ℕ, ◌+◌, ◌<◌, ◌≤◌, Bool, true, false, not, List, [], ◌∷◌}
 use Rattle.std.proofs.Common.{◌++◌, filter}
-use Rattle.std.proofs.Common.{Option, Some, None, refl, sym, ap, subst, ◌∙◌, arith, append_assoc, cond, get_or}
+use Rattle.std.proofs.Common.{Option, Some, None, refl, sym, ap, subst, ◌∙◌, arith, get_or}
 use Rattle.std.proofs.Common.{zero-add, IsTrue, ◌||◌, Result, Ok, Err}
 use Rattle.std.specs.Prelude.{OnOk}
 use Rattle.std.specs.List.{All, Any, Contains, list_all}
 use Rattle.std.proofs.lemmas.Bool.{and_from, and_parts, cases_Bool, cases_order, or_cases, or_left, or_right}
 use Rattle.std.proofs.lemmas.Bool.{true≢false, false≢true}
-use Rattle.std.proofs.lemmas.List.Elements.{All-contains, All-contains_itself, All-filter, Contains-append_left}
-use Rattle.std.proofs.lemmas.List.Elements.{Contains-append_right, Contains-push}
-use Rattle.std.proofs.lemmas.List.Elements.{Contains-push_cases, filter_passes}
+use Rattle.std.proofs.lemmas.List.Elements.{All-contains}
+use Rattle.std.proofs.lemmas.List.Elements.{Contains-append_right}
 use Rattle.std.proofs.lemmas.List.Kept.{AllPairs-filter}
-use Rattle.dist_base.specs.ListLaws.{all-contained, any-contained, any-there}
+use Rattle.dist_base.specs.ListLaws.{all-contained, any-contained}
 use Rattle.dist_cert.specs.ClaimRules.{yes}
 use Rattle.dist_cert.specs.Form.{Word}
 use Rattle.dist_cert.specs.ListLaws.{any-from, contains-cases, contains-later, from-any}

@@ -16,14 +16,15 @@ use Rattle.dist_judge.specs.AnswerLaws as answers
 use Rattle.dist_repo.specs.Order.{IsInOrder}
 use Rattle.dist_repo.specs.PackageList.{PackageList}
 use Rattle.dist_now.specs.PresentClauses.{ArePresentClauses}
-use Rattle.dist_subject.specs.Basis.{Basis, IsBasisOf, Today}
+use Rattle.dist_subject.specs.Basis.{Basis, IsBasisOf}
 use Rattle.dist_subject.specs.Limited.{AreInputsWithin}
 use Rattle.dist_subject.specs.Limited as subject
 use Rattle.dist_explain.specs.Answered.{Answers, AreDecided}
-use Rattle.dist_explain.specs.ExplanationFiles.{AreWithin, IsSelectedOf, PassesFirst}
+use Rattle.dist_explain.specs.ExplanationFiles.{IsSelectedOf, PassesFirst}
 use Rattle.dist_explain.specs.ExplanationFiles.{asked_by, explanation_files}
 use Rattle.dist_explain.specs.Selectors.{PassesSelected, selected_clauses}
-use Rattle.dist_explain.specs.Verdicts.{ExplanationAnswers, IsOfText, header_by}
+use Rattle.dist_explain.specs.Verdicts.{ExplanationAnswers, header_by}
+use Rattle.dist_judge.specs.Causes.{IsOfText}
 use Rattle.dist_explain.specs.declared.asked.Asked.{Asked}
 use Rattle.dist_explain.specs.declared.explained.Explained.{Explained}
 use Rattle.dist_explain.specs.declared.explained.Explained.TheVariants.{Installable, Undecided, Broken}
@@ -36,7 +37,7 @@ use Rattle.dist_explain.proofs.InputLemmas.{Present, none-present}
 use Rattle.dist_explain.proofs.NotesLemmas.{last-one, some-refuted}
 use Rattle.dist_explain.proofs.SelectedLemmas.{count-selected, length-selected}
 use Rattle.dist_explain.proofs.WholeLemmas.{whole-fits}
-use Rattle.dist_findings.specs.AnswerFiles.{Inputs, files_of}
+use Rattle.dist_findings.specs.AnswerFiles.{AreWithin, Inputs, files_of}
 use Rattle.dist_findings.specs.Findings.{findings}
 use Rattle.dist_findings.specs.declared.finding.Finding.{Finding}
 

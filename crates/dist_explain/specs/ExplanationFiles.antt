@@ -1,5 +1,5 @@
 -- The files of explanations: their first line, and what they are judged by.
-use Rattle.std.specs.Prelude.{◌≡◌, ◌⊎◌, ℕ, ◌+◌, ◌≤◌, false, List, codes, length, slice_index_or}
+use Rattle.std.specs.Prelude.{◌≡◌, ◌⊎◌, ℕ, ◌+◌, ◌≤◌, false, List, codes, length}
 use Rattle.dist_clause.specs.ClauseList.{ClauseList, literal_count}
 use Rattle.dist_clause.specs.Formula.{Literal}
 use Rattle.dist_outside.specs.declared.limits.Limits.{Limits}
@@ -10,13 +10,10 @@ use Rattle.dist_subject.specs.Limited.{PassesPresent}
 use Rattle.dist_explain.specs.Answered.{AreAnswered}
 use Rattle.dist_explain.specs.Selectors.{PassesSelected, selected_clauses}
 use Rattle.dist_explain.specs.declared.asked.Asked.{Asked}
-use Rattle.dist_findings.specs.AnswerFiles.{AnswerFile, Inputs}
+use Rattle.dist_findings.specs.AnswerFiles.{AnswerFile, AreWithin, Inputs, number_at}
 
--- the numbers of a first line in their order: the limit, how many packages and relations there are, and the package
-abbrev pub number_at : ℕ → List ℕ → ℕ
-number_at place numbers = slice_index_or numbers place 0
-
--- what they speak of
+-- The numbers of a first line are in their order the limit, how many packages and relations there are, and the package.
+-- What they speak of:
 abbrev pub asked_by : List ℕ → Asked
 asked_by numbers = record {
   packages = number_at 1 numbers;
@@ -38,12 +35,6 @@ pub record AreNumbersFor (packages variables : ℕ) (numbers : List ℕ) : Type 
   pub variables_are : number_at 1 numbers + number_at 2 numbers ≡ variables
   pub from_one : 1 ≤ number_at 3 numbers
   pub upto : number_at 3 numbers ≤ packages
-
--- the variables, the clauses and their literals keep the limits
-pub record AreWithin (limits : Limits) (basis : Inputs) : Type 0 where
-  pub variables : basis.variables ≤ limits.variables
-  pub clauses : length basis.clauses ≤ limits.clauses
-  pub literals : literal_count basis.clauses ≤ limits.literals
 
 -- The set holds what files are judged by, and keeps the limits.
 pub record AreSelectedInputs (r : PackageList) (limits : Limits) (set : ClauseList) : Type 0 where

@@ -4,7 +4,7 @@ use Rattle.dist_base.specs.declared.TheConstants.{MAX_LIMIT}
 use Rattle.dist_outside.specs.declared.limits.Limits.{Limits}
 use Rattle.dist_outside.specs.declared.trouble.WorkError.{WorkError}
 use Rattle.dist_outside.specs.declared.trouble.What.TheVariants.{Variables, Clauses, Literals}
-use Rattle.dist_outside.specs.declared.trouble.WorkError.TheVariants.{ReadFault, TooLarge, NoMemory}
+use Rattle.dist_outside.specs.declared.trouble.WorkError.TheVariants.{TooLarge}
 use Rattle.dist_cert.specs.declared.faults.ReadCertError.TheVariants.{Bad, Work}
 use Rattle.dist_cert.specs.Rising.{AreRising}
 use Rattle.dist_cert.specs.declared.records.CertRecord.{CertRecord}
@@ -16,13 +16,13 @@ use Rattle.dist_now.specs.PresentClauses.{Demand}
 use Rattle.dist_now.specs.Relations.{AreRelations}
 use Rattle.dist_explain.specs.Answered.{Answers}
 use Rattle.dist_explain.specs.Explanation.{AreConnected, Explain, IsNeeded}
-use Rattle.dist_explain.specs.ExplanationFiles.{PassesFirst, asked_by, explanation_files, number_at}
+use Rattle.dist_explain.specs.ExplanationFiles.{PassesFirst, asked_by, explanation_files}
 use Rattle.dist_explain.specs.declared.explained.Explained.{Explained}
 use Rattle.dist_explain.specs.declared.explained.Explained.TheVariants.{Installable, Undecided, Broken}
 use Rattle.dist_explain.specs.declared.verdict.ExplainHeader.{ExplainHeader}
 use Rattle.dist_explain.specs.declared.verdict.ExplainVerdict.{ExplainVerdict}
 use Rattle.dist_explain.specs.declared.verdict.ExplainVerdict.TheVariants.{Accepted, Refused}
-use Rattle.dist_findings.specs.AnswerFiles.{files_of}
+use Rattle.dist_findings.specs.AnswerFiles.{files_of, number_at}
 use Rattle.dist_findings.specs.Answers.{IsAnswered}
 use Rattle.dist_findings.specs.Findings.{findings}
 
@@ -61,12 +61,6 @@ LargeCause r limits (TooLarge Variables) = PassesFirst r limits Variables
 LargeCause r limits (TooLarge Clauses) = PassesFirst r limits Clauses
 LargeCause r limits (TooLarge Literals) = PassesFirst r limits Literals
 LargeCause r limits error = Unit {0}
-
--- an answer that the text decides: neither a fault of reading nor want of memory
-abbrev pub IsOfText : Result ExplainVerdict WorkError → Type 0
-IsOfText (Err ReadFault) = ⊥
-IsOfText (Err NoMemory) = ⊥
-IsOfText result = Unit {0}
 
 -- ---- what is true
 

@@ -2,27 +2,17 @@
 ghost use Rattle.std.specs.Prelude.{◌≡◌, ◌↔◌, IsTrue};
 ghost use Rattle.dist_repo.specs.Size.{IsWithinSize};
 ghost use Rattle.dist_subject.specs.Limited.{AreStated};
-ghost use Rattle.dist_explain.specs.ExplanationFiles.{AreNumbersFor, asked_by, explanation_files, number_at};
+ghost use Rattle.dist_explain.specs.ExplanationFiles.{AreNumbersFor, asked_by, explanation_files};
 ghost use Rattle.dist_explain.specs.NotesPrivate.{AreNotesOf};
 
 use crate::asked::Asked;
 use crate::inputs::selected_inputs;
 use crate::notes::Notes;
 use dist_clause::ClauseSet;
-use dist_findings::{Answering, Finding};
+use dist_findings::{Answering, Finding, number_at};
 use dist_outside::{Limits, WorkError};
 use dist_repo::Repository;
 use std::alloc::{AllocError, Global};
-
-/// The number at a place of a first line, or 0.
-pub(crate) fn number_at(numbers: &[u32], place: usize) -> u32
-    ensures { result ≡ number_at place numbers.now }
-{
-    match numbers.get(place) {
-        Some(number) => *number,
-        None => 0,
-    }
-}
 
 /// What a first line speaks of.
 fn asked_by(numbers: &[u32]) -> Asked
@@ -65,6 +55,8 @@ impl<'a> Answering for Explaining<'a> {
     fn front(&self) -> &[u8] {
         b"distfuture-explain 1"
     }
+
+    fn front_is_one_line(&self) {}
 
     fn count(&self) -> usize {
         4

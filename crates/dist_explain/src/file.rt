@@ -9,11 +9,11 @@ ghost use Rattle.dist_repo.specs.Size.{IsWithinSize};
 ghost use Rattle.dist_subject.specs.Limited.{AreStated};
 ghost use Rattle.dist_explain.specs.Verdicts.{ExplanationAnswers, LargeCause, VerdictMeans, header_by};
 
-use crate::explaining::{Explaining, number_at};
+use crate::explaining::Explaining;
 use crate::laws::accepted_explanations_hold;
 use crate::verdict::{ExplainHeader, ExplainVerdict};
 use dist_cert::forms_are_clear;
-use dist_findings::{Answered, check_answers};
+use dist_findings::{Answered, check_answers, number_at};
 use dist_outside::{Desk, Limits, WorkError};
 use dist_repo::Repository;
 use std::alloc::Global;
@@ -50,8 +50,7 @@ pub fn check_explained<D: Desk>(
 {
     forms_are_clear();
     accepted_explanations_hold();
-    // What this call tells is that the packages are in order.
-    let _packages = repo.len();
+    repo.keeps_invariant();
     let explaining = Explaining { repo };
     match check_answers(alloc, desk, &explaining, name, limits) {
         Ok(Answered::Accepted(numbers, notes)) => {

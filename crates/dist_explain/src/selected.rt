@@ -1,14 +1,13 @@
 //! The clauses of the present, each with its selector.
-ghost use Rattle.std.specs.Prelude.{◌≡◌, ◌+◌, ◌++◌, ◌<◌, ◌≤◌, ◌∷◌, [], IfErr, IfOk, OnErr, OnOk, false, length, take};
+ghost use Rattle.std.specs.Prelude.{◌≡◌, ◌+◌, ◌++◌, ◌<◌, ◌≤◌, ◌∷◌, [], IfErr, IfOk, OnOk, false, length};
 ghost use Rattle.dist_base.specs.Answers.{IsExactly};
 ghost use Rattle.dist_base.specs.declared.TheConstants.{MAX_LITERALS, MAX_VARIABLES};
-ghost use Rattle.dist_clause.specs.ClauseList.{clause_at};
 ghost use Rattle.dist_clause.specs.Formula.{literal};
 ghost use Rattle.dist_judge.specs.Causes.{IsLarge};
 ghost use Rattle.dist_outside.specs.declared.trouble.What.{What};
 ghost use Rattle.dist_outside.specs.declared.trouble.WorkError.TheVariants.{NoMemory, TooLarge};
 ghost use Rattle.dist_explain.specs.SelectedPrivate.{IsFront, IsFullAt};
-ghost use Rattle.dist_explain.specs.Selectors.{IsSelectedSet, PassesSelected, selected};
+ghost use Rattle.dist_explain.specs.Selectors.{IsSelectedSet, PassesSelected};
 
 use dist_clause::{ClauseSet, Lit, PushError};
 use dist_outside::{Limits, What, WorkError};
@@ -40,8 +39,7 @@ fn push_selected(
     ensures limit { OnOk result (set.new.literal_limit ≡ set.old.literal_limit) }
     ensures err { IfErr result (IsFullAt clauses.now set.old.literal_limit) }
 {
-    // What this call tells is that there may be so many variables.
-    let _stated = set.variables();
+    set.keeps_invariant();
     let selector = clauses.variables() + place + 1;
     if let Err(AllocError) = write_selected(clause, clauses.clause(place + 1), selector) {
         return Err(PushError::NoMemory);
@@ -88,8 +86,7 @@ pub fn with_selectors(
     let mut set = ClauseSet::new(alloc, variables, count, limits.literals);
     match push_all_selected(alloc, clauses, &mut set) {
         Ok(()) => {
-            // What this call tells is that the set is within its limits.
-            let _count = set.len();
+            set.keeps_invariant();
             Ok(set)
         }
         Err(error) => {

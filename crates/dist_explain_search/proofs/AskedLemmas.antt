@@ -1,6 +1,6 @@
 -- A question that was asked behind some lines.
-use Rattle.std.proofs.Common.{◌≡◌, ◌⊎◌, ◌≤◌, inl, inr, ℕ, true, List, [], ◌∷◌, ◌++◌, refl, sym, ap, subst, ◌∙◌, append_assoc, arith}
-use Rattle.std.specs.List.{All, AllPass, Any, Contains}
+use Rattle.std.proofs.Common.{◌≡◌, ◌⊎◌, ◌≤◌, inl, inr, ℕ, true, List, [], ◌∷◌, ◌++◌, sym, subst, append_assoc, arith}
+use Rattle.std.specs.List.{All, AllPass, Contains}
 use Rattle.std.proofs.lemmas.Bool.{false≢true}
 use Rattle.std.proofs.lemmas.List.Elements.{All-contains, All-contains_itself, All-nil, Contains-append_cases}
 use Rattle.dist_outside.specs.DeskView.{DeskView, FileGrew}
@@ -23,8 +23,7 @@ use Rattle.dist_line_write.specs.ScriptLaws.{question-asked}
 use Rattle.dist_line_write.specs.Words.{closing_line}
 use Rattle.dist_inquiry.specs.AnswerText.{NoteMore, finding_of}
 use Rattle.dist_explain_search.specs.ExplainOrder.{IsNextQuestion}
-use Rattle.dist_explain_search.specs.SearchPrivate.{AreNumbers, Goes, HasJust, IsAtCore, IsSearching, explain_noting, question_of}
-use Rattle.dist_explain_search.proofs.GoingLemmas.{Place}
+use Rattle.dist_explain_search.specs.SearchPrivate.{AreNumbers, HasJust, IsSearching, explain_noting, question_of}
 use Rattle.dist_explain_search.proofs.QuestionLemmas.{question-selects}
 
 -- ---- which questions stand among lines

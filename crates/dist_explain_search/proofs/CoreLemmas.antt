@@ -1,6 +1,6 @@
 -- The core, with one question more.
 use Rattle.std.proofs.Common.{◌≡◌, ◌≢◌, ◌⊎◌, ◌==◌, inl, inr, ℕ, ◌+◌, ◌<◌, ◌≤◌, Bool, not, List, [], ◌∷◌, ◌++◌, length, filter}
-use Rattle.std.proofs.Common.{refl, sym, ap, subst, ◌∙◌, arith}
+use Rattle.std.proofs.Common.{refl, sym, subst, arith}
 use Rattle.std.specs.List.{All, Any, Contains}
 use Rattle.std.proofs.lemmas.Bool.{cases_eq}
 use Rattle.std.proofs.lemmas.List.Elements.{All-contains, All-contains_itself, All-push, All-weaker}
@@ -8,7 +8,6 @@ use Rattle.dist_base.specs.ListLaws.{all-contained, any-there}
 use Rattle.dist_clause.specs.Formula.{value_of}
 use Rattle.dist_outside.specs.DeskView.{DeskView}
 use Rattle.dist_cert.specs.Form.{Word}
-use Rattle.dist_cert.specs.Rising.{AreRising}
 use Rattle.dist_cert.specs.declared.records.CertRecord.{CertRecord}
 use Rattle.dist_cert.specs.declared.records.CertRecord.TheVariants.{Question}
 use Rattle.dist_explain.specs.Answered.{AreAllBut, AreLast, IsOfRelation, LeavesOpen, RefutesSome, Selects, ShowsNeeded}
@@ -17,7 +16,6 @@ use Rattle.dist_explain.specs.NotesPrivate.{IsMarkedIn, NotesView}
 use Rattle.dist_explain.specs.declared.asked.Asked.{Asked}
 use Rattle.dist_findings.specs.Findings.{findings}
 use Rattle.dist_findings.specs.declared.finding.Finding.{Finding}
-use Rattle.dist_findings.specs.declared.finding.Finding.TheVariants as finding
 use Rattle.dist_solver.specs.declared.answers.Answer.{Answer}
 use Rattle.dist_solver.specs.declared.answers.Answer.TheVariants as answers
 use Rattle.dist_line_write.specs.Asking.{AskerView}

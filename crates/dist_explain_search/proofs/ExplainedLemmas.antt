@@ -1,13 +1,11 @@
 -- What the search answers, and what it leaves of the file.
-use Rattle.std.proofs.Common.{◌≡◌, ◌⊎◌, inl, inr, ℕ, ◌+◌, ◌-◌, ◌<◌, ◌≤◌, List, [], ◌∷◌, length, Result, Ok, Err, refl, sym, ap, subst, ◌∙◌, arith}
+use Rattle.std.proofs.Common.{◌≡◌, inl, inr, ℕ, ◌+◌, ◌-◌, ◌<◌, ◌≤◌, List, [], ◌∷◌, length, Result, Ok, Err, refl, sym, ap, subst, ◌∙◌, arith}
 use Rattle.std.specs.List.{All}
-use Rattle.std.proofs.lemmas.List.Elements.{All-cons, All-nil}
 use Rattle.dist_base.specs.Answers.{IsExactly}
 use Rattle.dist_base.specs.declared.TheConstants.{MAX_LIMIT}
 use Rattle.dist_clause.specs.ClauseList.{ClauseList}
 use Rattle.dist_clause.specs.Formula.{IsClauseOver}
 use Rattle.dist_outside.specs.DeskView.{DeskView}
-use Rattle.dist_outside.specs.Files.{IsNotWriting}
 use Rattle.dist_outside.specs.declared.limits.Limits.{Limits}
 use Rattle.dist_outside.specs.declared.trouble.What.{What}
 use Rattle.dist_outside.specs.declared.trouble.What.TheVariants.{Variables, Clauses, Literals}
@@ -16,21 +14,15 @@ use Rattle.dist_outside.specs.declared.trouble.WorkError.TheVariants.{ReadFault,
 use Rattle.dist_cert.specs.Form.{IsSmall}
 use Rattle.dist_judge.specs.Causes.{IsLarge}
 use Rattle.dist_repo.specs.PackageList.{PackageList}
-use Rattle.dist_explain.specs.Answered.{Answers, AreAnswered}
+use Rattle.dist_explain.specs.Answered.{Answers}
 use Rattle.dist_explain.specs.ExplanationFiles.{AreSelectedInputs, PassesFirst, asked_by, explanation_files}
 use Rattle.dist_explain.specs.NotesPrivate.{AreNotesOf, NotesView}
 use Rattle.dist_explain.specs.declared.asked.Asked.{Asked}
 use Rattle.dist_explain.specs.declared.explained.Explained.{Explained}
-use Rattle.dist_explain.specs.declared.verdict.ExplainHeader.{ExplainHeader}
 use Rattle.dist_findings.specs.AnswerFiles.{Inputs}
-use Rattle.dist_findings.specs.Answers.{IsAnswered}
 use Rattle.dist_findings.specs.Findings.{findings}
-use Rattle.dist_findings.specs.declared.finding.Finding.{Finding}
 use Rattle.dist_line_write.specs.Asking.{AskerView}
-use Rattle.dist_line_write.specs.Script.{Passes}
-use Rattle.dist_inquiry.specs.Inquiring.{InquiryAnswers, MayInquire}
 use Rattle.dist_inquiry.specs.StartLaws.{alone-stand, heading-by, log-at-start, new_asker}
-use Rattle.dist_inquiry.specs.Written.{LeavesCut, WrittenAnswers}
 use Rattle.dist_explain_search.specs.ExplainAnswers.{ExplainAnswers, TellsFirst, first_numbers}
 use Rattle.dist_explain_search.specs.SearchPrivate.{FitsAsked, Leaves, MayBegin, RunsSearch, TellsAnswer, TellsOf, WritesFile}
 

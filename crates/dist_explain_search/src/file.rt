@@ -155,8 +155,7 @@ pub fn explain<D: Desk>(
     let set = selected_inputs(alloc, repo, limits)?;
     let packages = repo.len();
     let variables = set.variables();
-    // What this call tells is that the clauses are over the variables.
-    let _count = set.len();
+    set.keeps_invariant();
     let relations = variables - packages;
     let numbers = numbers_of(alloc, limit, packages, relations, package + 1)?;
     let asked = Asked {

@@ -46,7 +46,7 @@ impl<'a> ExplainSearch<'a> {
         ensures grows { Grows (D.view desk.old) (D.view desk.new) }
     {
         file_grows();
-        let _stated = inquirer.variables();
+        inquirer.keeps_invariant();
         let question = question_of(self.alloc, &self.asked, numbers)?;
         ask_and_note(
             self.alloc,
@@ -81,7 +81,7 @@ impl<'a> ExplainSearch<'a> {
         ensures grows { Grows (D.view desk.old) (D.view desk.new) }
     {
         file_grows();
-        let _stated = inquirer.variables();
+        inquirer.keeps_invariant();
         let core = core_of(self.alloc, inquirer, self.asked.packages, &numbers, hints)?;
         if core.len() >= numbers.len() {
             return Ok(numbers);

@@ -3,6 +3,7 @@ use Rattle.std.specs.Prelude.{◌≡◌, ℕ, ◌≤◌, List, All, length, slic
 use Rattle.dist_base.specs.declared.TheConstants.{MAX_LIMIT}
 use Rattle.dist_outside.specs.declared.limits.Limits.{Limits}
 use Rattle.dist_outside.specs.declared.trouble.What.{What}
+use Rattle.dist_clause.specs.ClauseList.{literal_count}
 use Rattle.dist_clause.specs.Formula.{Literal}
 use Rattle.dist_cert.specs.FirstLines.{first_line}
 use Rattle.dist_cert.specs.Form.{IsSmall}
@@ -27,9 +28,19 @@ pub record AnswerFile : Type 1 where
   pub IsWithin : Limits → Inputs → Type 0
   pub PassesFirst : (numbers : List ℕ) → Limits → What → Type 0
 
+-- the variables, the clauses and their literals keep the limits
+pub record AreWithin (limits : Limits) (basis : Inputs) : Type 0 where
+  pub variables : basis.variables ≤ limits.variables
+  pub clauses : length basis.clauses ≤ limits.clauses
+  pub literals : literal_count basis.clauses ≤ limits.literals
+
+-- a number of a first line, by its place from 0
+abbrev pub number_at : ℕ → List ℕ → ℕ
+number_at place numbers = slice_index_or numbers place 0
+
 -- the limit is the first number
 abbrev pub limit_of : List ℕ → ℕ
-limit_of numbers = slice_index_or numbers 0 0
+limit_of numbers = number_at 0 numbers
 
 -- There are so many numbers, and the limit is one that may be given.
 abbrev pub AreCounted : ℕ → List ℕ → Type 0

@@ -31,6 +31,10 @@ pub trait Answering {
         ensures value { result.now ≡ (file self.now).front }
         ensures one_line { IsOneLine (file self.now).front };
 
+    /// That is one line. Does nothing.
+    fn front_is_one_line(&self)
+        ensures { IsOneLine (file self.now).front };
+
     /// How many numbers follow it.
     fn count(&self) -> usize
         ensures { result ≡ (file self.now).count };

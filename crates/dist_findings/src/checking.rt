@@ -112,8 +112,7 @@ pub(crate) fn check_text<D: Desk, A: Answering>(
     ensures only_reads { OnlyReads (D.view desk.old) (D.view desk.new) }
 {
     forms_are_clear();
-    // What this call tells is that it is one line.
-    let _front = answering.front();
+    answering.front_is_one_line();
     let mut reader = Reader::new(alloc, limits);
     let line = reader.first(desk)?;
     let begun = begin(alloc, answering, &line, limits)?;

@@ -53,8 +53,7 @@ impl<'a, A: Answering> Kind for Files<'a, A> {
 
     fn laws(&self) {
         forms_are_clear();
-        // What this call tells is that it is one line.
-        let _front = self.answering.front();
+        self.answering.front_is_one_line();
     }
 
     fn judge_claim(

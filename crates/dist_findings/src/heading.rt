@@ -1,21 +1,28 @@
 //! The first line.
 ghost use Rattle.std.specs.Prelude.{◌≡◌, ◌↔◌, All, IfOk, IsTrue, MatchOption};
 ghost use Rattle.dist_cert.specs.Form.{IsSmall};
-ghost use Rattle.dist_findings.specs.AnswerFiles.{AreCounted, HasHeading, HasNoHeading, limit_of};
+ghost use Rattle.dist_findings.specs.AnswerFiles.{AreCounted, HasHeading, HasNoHeading, limit_of, number_at};
 
 use crate::answering::Answering;
 use dist_base::MAX_LIMIT;
 use dist_cert::{first_line_numbers, forms_are_clear};
 use std::alloc::{AllocError, Global};
 
+/// The number of a first line at a place, from 0, or 0 past the last one.
+pub fn number_at(numbers: &[u32], place: usize) -> u32
+    ensures { result ≡ number_at place numbers.now }
+{
+    match numbers.get(place) {
+        Some(number) => *number,
+        None => 0,
+    }
+}
+
 /// The limit of a first line.
 pub(crate) fn limit_of(numbers: &[u32]) -> u32
     ensures { result ≡ limit_of numbers.now }
 {
-    match numbers.first() {
-        Some(limit) => *limit,
-        None => 0,
-    }
+    number_at(numbers, 0)
 }
 
 /// Whether there are so many numbers, and the first is a limit that may be given.

@@ -16,3 +16,4 @@ mod heading;
 pub use answering::Answering;
 pub use file::{Answered, check_answers};
 pub use finding::Finding;
+pub use heading::number_at;

@@ -1,8 +1,6 @@
 //! The file of one question, from its first line to its end.
-ghost use Rattle.std.specs.Prelude.{◌≡◌, ◌≤◌, ℕ, List, [], IfErr, IfOk, OnErr, OnOk};
-ghost use Rattle.dist_outside.specs.DeskView.{Closed, Holds, NotCreated};
-ghost use Rattle.dist_outside.specs.Files.{IsNotWriting, IsWriting, Writing, where_told};
-ghost use Rattle.dist_outside.specs.Reading.{DeskWriteCause};
+ghost use Rattle.std.specs.Prelude.{◌≡◌, ◌≤◌, ℕ, List, IfErr, IfOk, OnOk};
+ghost use Rattle.dist_outside.specs.Files.{IsNotWriting, IsWriting};
 ghost use Rattle.dist_cert.specs.FileLines.{IsOneLine};
 ghost use Rattle.dist_cert.specs.FirstLines.{first_line};
 ghost use Rattle.dist_line_write.specs.Script.{Grows};

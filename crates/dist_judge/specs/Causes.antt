@@ -29,6 +29,12 @@ IsLarge Passes (TooLarge what) = Passes what
 IsLarge Passes NoMemory = Unit {0}
 IsLarge Passes error = ⊥
 
+-- an answer that the text decides: neither a fault of reading nor want of memory
+abbrev pub IsOfText : {X : Type 0} → Result X WorkError → Type 0
+IsOfText (Err ReadFault) = ⊥
+IsOfText (Err NoMemory) = ⊥
+IsOfText result = Unit {0}
+
 -- what holds of each answer but a fault of reading and want of memory
 abbrev pub OnceRead : {X : Type 0} → Result X WorkError → Type 0 → Type 0
 OnceRead (Ok x) Holds = Holds

@@ -81,10 +81,10 @@ pub record IsSmallLog (log : ClauseLog) : Type 0 where
   pub clauses : length log.clauses < 2 ^ 32
   pub within : IsWithinLineLimits log
 
-pub small-log : (log : ClauseLog) (variables count : ℕ) → variables ≡ log.variables → variables ≤ MAX_VARIABLES → count ≡ length log.clauses
-    → count ≤ MAX_CLAUSES + MAX_LINES → IsWithinLineLimits log → IsSmallLog log
-small-log log variables count are stated is total within =
-    record { variables = omega (arith, are, stated); clauses = omega (arith, is, total); within = within }
+pub small-log : (told log : ClauseLog) → told ≡ log → told.variables ≤ MAX_VARIABLES → length told.clauses ≤ MAX_CLAUSES + MAX_LINES
+    → IsWithinLineLimits told → IsSmallLog log
+small-log told log is stated total within = subst IsSmallLog is
+    (record { variables = omega (arith, stated); clauses = omega (arith, total); within = within })
 
 pub derived-all : (g : Script) (before : List CertRecord) (question : List Word) (old new : ClauseLog) (ds : List DerivedLine) (limit : ℕ)
     → IsLogAt g before old limit

@@ -1,5 +1,5 @@
 -- What putting the first line makes of a writer, and where it stops.
-use Rattle.std.proofs.Common.{◌≡◌, inl, ℕ, ◌+◌, ◌<◌, List, [], ◌++◌, ◌∷◌, length, Result, Ok, Err, OnOk, OnErr, IfErr, refl, ap, ◌∙◌, arith}
+use Rattle.std.proofs.Common.{◌≡◌, inl, ℕ, ◌+◌, List, [], ◌∷◌, length, Result, Ok, Err, OnOk, OnErr, IfErr, refl, ap, ◌∙◌, arith}
 use Rattle.std.proofs.Common.{length-append}
 use Rattle.std.proofs.lemmas.List.Elements.{All-nil}
 use Rattle.dist_outside.specs.DeskView.{DeskView, FileGrewByFront}

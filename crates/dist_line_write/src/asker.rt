@@ -7,7 +7,6 @@ ghost use Rattle.dist_derive.specs.Follows.{EachLineFollows, IsNumberOf};
 ghost use Rattle.dist_outside.specs.DeskView.{FileGrew};
 ghost use Rattle.dist_outside.specs.Files.{IsWriting};
 ghost use Rattle.dist_solver.specs.Ask.{IsAnswer, IsRefutation};
-ghost use Rattle.dist_solver.specs.Evidence.{Adds};
 ghost use Rattle.dist_solver.specs.declared.answers.Answer.TheVariants as answers;
 ghost use Rattle.dist_cert.specs.FileLines.{IsOneLine};
 ghost use Rattle.dist_cert.specs.Form.{AreFromOne, KeepsLimit, KeepsRules, Word, header_text, record_text};
@@ -115,8 +114,7 @@ fn derive<D: Desk>(
 {
     file_grows();
     let answer = solver.ask_with(assumptions, limit, trues, shunned);
-    let _stated = solver.log().variables();
-    let _within = solver.log().len();
+    solver.log().keeps_invariant();
     put_derived(alloc, solver.log(), solver.derived(), writer, desk)?;
     match answer {
         Ok(answer) => Ok(answer),
@@ -261,6 +259,13 @@ impl Asker {
         self.solver.log().variables()
     }
 
+    /// There are at most as many variables as may be. Does nothing.
+    pub fn keeps_invariant(&self)
+        ensures { self.now.log.variables ≤ MAX_VARIABLES }
+    {
+        self.variables();
+    }
+
     /// Puts the first line, without its line feed.
     pub fn put_first<D: Desk>(&mut self, desk: &mut D, line: &[u8]) -> Result<(), WorkError>
         requires writing { IsWriting (D.view desk.old).mode }
@@ -393,8 +398,7 @@ impl Asker {
         ensures grows { Grows (D.view desk.old) (D.view desk.new) }
     {
         file_grows();
-        let _stated = self.solver.log().variables();
-        let _within = self.solver.log().len();
+        self.solver.log().keeps_invariant();
         let assumptions = clause_of(self.alloc, question)?;
         let log = self.solver.log();
         let refuted = are_refuted(self.alloc, log, &mut self.scratch, &assumptions, hints)?;

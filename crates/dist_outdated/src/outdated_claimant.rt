@@ -149,8 +149,7 @@ impl OutdatedClaimant {
         ensures space { IsSpace self.now.space }
         ensures few { length self.now.space.repository.packages < 2 ^ 32 }
     {
-        let _variables = self.space.variables();
-        let _packages = self.space.package_count();
+        self.space.keeps_invariant();
         self.space.variable(&Meaning::Present(package - 1))
     }
 

@@ -35,8 +35,7 @@ pub fn outdated<D: Desk>(
     ensures first { TellsFirst repo.now Outdated essential limits.now result }
 {
     first_numbers_are_one();
-    // The packages of a repository are in order.
-    let _packages = repo.len();
+    repo.keeps_invariant();
     let inputs = later_inputs(alloc, repo, essential, limits)?;
     let over = SweepInputs {
         kind: CertKind::Outdated,

@@ -28,7 +28,7 @@ use Rattle.dist_line_check.specs.ToldLaws.{most-told, stable}
 use Rattle.dist_future.specs.Moved.{TellOfMoves}
 use Rattle.dist_space.specs.Space.{IsSpace, SpaceView}
 use Rattle.dist_space_clauses.specs.SpaceClauses.{AreSpaceClauses}
-use Rattle.dist_findings.specs.AnswerFiles.{Inputs, files_of, limit_of}
+use Rattle.dist_findings.specs.AnswerFiles.{Inputs, files_of, limit_of, number_at}
 use Rattle.dist_findings.specs.Answers.{IsAnswered}
 use Rattle.dist_findings.specs.FilesClearLaws.{clear_files}
 use Rattle.dist_findings.specs.FindingLaws.{findings_push, open_after}
@@ -38,7 +38,7 @@ use Rattle.dist_findings.specs.declared.finding.Finding.{Finding}
 use Rattle.dist_repair.specs.Answered.{Answers}
 use Rattle.dist_repair.specs.Counters.{CountedModelsTell, ModelsTellMoves, counted_clauses, counted_variables, counter_of}
 use Rattle.dist_repair.specs.Means.{Says}
-use Rattle.dist_repair.specs.RepairFiles.{AreCountedInputs, Fits, IsDecided, asked_by, most_of, number_at, repair_files}
+use Rattle.dist_repair.specs.RepairFiles.{AreCountedInputs, Fits, IsDecided, asked_by, most_of, repair_files}
 use Rattle.dist_repair.specs.Verdicts.{AcceptedSays, IsHeaderOf, IsOver, is_undecided}
 use Rattle.dist_base.specs.declared.TheConstants.{MAX_MOST}
 use Rattle.dist_repair.specs.declared.repair.Repair.{Repair}

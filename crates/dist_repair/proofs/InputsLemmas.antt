@@ -24,7 +24,8 @@ use Rattle.dist_repair.specs.CountedPrivate.{IsStoppedIn}
 use Rattle.dist_repair.specs.Counters.{Counter, IsCountedSet, PassesCounted, counted_clauses, counted_variables, counter_clauses, counter_of, more}
 use Rattle.dist_repair.specs.InputsPrivate.{AreInputsWithin, inputs_of}
 use Rattle.dist_repair.specs.NotesPrivate.{AreWordsOf, WordsView}
-use Rattle.dist_repair.specs.RepairFiles.{Fits, PassesWith, asked_by, most_of, number_at, repair_files}
+use Rattle.dist_repair.specs.RepairFiles.{Fits, PassesWith, asked_by, most_of, repair_files}
+use Rattle.dist_findings.specs.AnswerFiles.{number_at}
 use Rattle.dist_base.specs.declared.TheConstants.{MAX_MOST}
 use Rattle.dist_repair.proofs.StopLemmas.{stops-at}
 

@@ -13,16 +13,16 @@ use Rattle.dist_cert.specs.declared.faults.CertFault.{CertFault}
 use Rattle.dist_cert.specs.declared.faults.ReadCertError.TheVariants.{Bad, Work}
 use Rattle.dist_cert.specs.ClearFormsLaws.{FormsAreClear}
 use Rattle.dist_judge.specs.AnswerLaws as answers
-use Rattle.dist_judge.specs.Causes.{IsLarge}
+use Rattle.dist_judge.specs.Causes.{IsLarge, IsOfText}
 use Rattle.dist_space.specs.Space.{SpaceView}
 use Rattle.dist_space_clauses.specs.SpaceClauses.{AreSpaceClauses}
-use Rattle.dist_findings.specs.AnswerFiles.{Inputs, files_of}
+use Rattle.dist_findings.specs.AnswerFiles.{AreWithin, Inputs, files_of}
 use Rattle.dist_findings.specs.Findings.{findings}
 use Rattle.dist_repair.specs.Answered.{Answers}
 use Rattle.dist_repair.specs.Counters.{PassesCounted, counted_clauses, counted_variables, counter_of}
 use Rattle.dist_repair.specs.InputsPrivate.{AreInputsWithin, inputs_of}
-use Rattle.dist_repair.specs.RepairFiles.{AreCountedInputs, AreWithin, IsBasisOf, PassesWith, asked_by, most_of, repair_files}
-use Rattle.dist_repair.specs.Verdicts.{IsHeaderOf, IsOfText, RepairAnswers}
+use Rattle.dist_repair.specs.RepairFiles.{AreCountedInputs, IsBasisOf, PassesWith, asked_by, most_of, repair_files}
+use Rattle.dist_repair.specs.Verdicts.{IsHeaderOf, RepairAnswers}
 use Rattle.dist_base.specs.declared.TheConstants.{MAX_MOST}
 use Rattle.dist_repair.specs.declared.repair.Repair.{Repair}
 use Rattle.dist_repair.specs.declared.verdict.RepairHeader.{RepairHeader}

@@ -3,8 +3,8 @@ use Rattle.std.specs.Prelude.{ℕ}
 use Rattle.dist_clause.specs.ClauseList.{ClauseList}
 use Rattle.dist_outside.specs.declared.limits.Limits.{Limits}
 use Rattle.dist_space.specs.Space.{SpaceView}
-use Rattle.dist_findings.specs.AnswerFiles.{Inputs}
-use Rattle.dist_repair.specs.RepairFiles.{AreCountedInputs, AreWithin}
+use Rattle.dist_findings.specs.AnswerFiles.{AreWithin, Inputs}
+use Rattle.dist_repair.specs.RepairFiles.{AreCountedInputs}
 
 -- the variables and clauses of a set
 abbrev pub inputs_of : ClauseList → Inputs

@@ -1,24 +1,19 @@
 -- The files of repairs: their first line, and what they are judged by.
-use Rattle.std.specs.Prelude.{◌≡◌, ◌⊎◌, ℕ, ◌-◌, ◌<◌, ◌≤◌, List, [], codes, length, slice_index_or}
-use Rattle.dist_clause.specs.ClauseList.{literal_count}
+use Rattle.std.specs.Prelude.{◌≡◌, ◌⊎◌, ℕ, ◌-◌, ◌<◌, ◌≤◌, List, [], codes, length}
 use Rattle.dist_clause.specs.Formula.{Literal}
 use Rattle.dist_outside.specs.declared.limits.Limits.{Limits}
 use Rattle.dist_outside.specs.declared.trouble.What.{What}
 use Rattle.dist_space.specs.Space.{SpaceView}
 use Rattle.dist_space_clauses.specs.SpaceClauses.{AreSpaceClauses}
-use Rattle.dist_findings.specs.AnswerFiles.{AnswerFile, Inputs}
+use Rattle.dist_findings.specs.AnswerFiles.{AnswerFile, AreWithin, Inputs, number_at}
 use Rattle.dist_findings.specs.declared.finding.Finding.{Finding}
 use Rattle.dist_repair.specs.Answered.{Answers, Asked}
 use Rattle.dist_repair.specs.Counters.{PassesCounted, counted_clauses, counted_variables, counter_of}
 use Rattle.dist_base.specs.declared.TheConstants.{MAX_MOST}
 use Rattle.dist_repair.specs.declared.repair.Repair.{Repair}
 
--- The numbers of a first line, in order: the limit, the numbers of packages, of variables and of clauses, the package,
--- from 1, and the most that is counted to. One of them, by its place from 0:
-abbrev pub number_at : ℕ → List ℕ → ℕ
-number_at place numbers = slice_index_or numbers place 0
-
--- the most that is counted to
+-- The numbers of a first line are in their order the limit, the numbers of packages, of variables and of clauses, the
+-- package, from 1, and the most that is counted to. That one:
 abbrev pub most_of : List ℕ → ℕ
 most_of numbers = number_at 5 numbers
 
@@ -51,12 +46,6 @@ pub record Fits (s : SpaceView) (basis : Inputs) (numbers : List ℕ) : Type 0 w
   pub from_one : 1 ≤ number_at 4 numbers
   pub upto : number_at 4 numbers ≤ length s.repository.packages
   pub most : most_of numbers ≤ MAX_MOST
-
--- the numbers of variables, of clauses and of literals keep the limits
-pub record AreWithin (limits : Limits) (basis : Inputs) : Type 0 where
-  pub variables : basis.variables ≤ limits.variables
-  pub clauses : length basis.clauses ≤ limits.clauses
-  pub literals : literal_count basis.clauses ≤ limits.literals
 
 -- with a counter up to the most, the number that is passed first
 pub record PassesWith (s : SpaceView) (most : ℕ) (limits : Limits) (what : What) : Type 0 where

@@ -3,7 +3,6 @@ use Rattle.std.specs.Prelude.{◌≡◌, ℕ, ◌≤◌, ◌^◌, Bool, true, fa
 use Rattle.std.specs.Prelude.{slice_get}
 use Rattle.dist_outside.specs.declared.limits.Limits.{Limits}
 use Rattle.dist_outside.specs.declared.trouble.WorkError.{WorkError}
-use Rattle.dist_outside.specs.declared.trouble.WorkError.TheVariants.{NoMemory, ReadFault}
 use Rattle.dist_cert.specs.declared.faults.ReadCertError.TheVariants.{Bad, Work}
 use Rattle.dist_cert.specs.declared.records.CertRecord.{CertRecord}
 use Rattle.dist_judge.specs.Judging.{IsAccepted, IsRefused, StopsWith}
@@ -48,12 +47,6 @@ abbrev pub RepairAnswers : SpaceView → Limits → List ℕ → Result RepairVe
 RepairAnswers s limits text (Ok (Accepted h repair)) = IsRepair s limits text h repair
 RepairAnswers s limits text (Ok (Refused fault)) = StopsWith (files_of (repair_files s)) limits text (Bad fault)
 RepairAnswers s limits text (Err error) = StopsWith (files_of (repair_files s)) limits text (Work error)
-
--- an answer that the text decides: neither a fault of reading nor want of memory
-abbrev pub IsOfText : Result RepairVerdict WorkError → Type 0
-IsOfText (Err ReadFault) = ⊥
-IsOfText (Err NoMemory) = ⊥
-IsOfText result = Unit {0}
 
 -- the assignments of a repair have a value for each of so many variables
 abbrev pub IsOver : (variables : ℕ) → Repair → Type 0

@@ -9,13 +9,12 @@ ghost use Rattle.dist_subject.specs.Limited.{AreStated};
 ghost use Rattle.dist_repair.specs.NotesPrivate.{IsVerdictOf};
 ghost use Rattle.dist_repair.specs.Verdicts.{IsHeaderOf, RepairAnswers, VerdictSays};
 
-use crate::inputs::number_at;
 use crate::laws::accepted_repairs_hold;
 use crate::notes::Notes;
 use crate::repairing::Repairing;
 use crate::verdict::{RepairHeader, RepairVerdict};
 use dist_cert::forms_are_clear;
-use dist_findings::{Answered, check_answers};
+use dist_findings::{Answered, check_answers, number_at};
 use dist_outside::{Desk, Limits, WorkError};
 use dist_space::Space;
 use std::alloc::Global;
@@ -63,8 +62,7 @@ pub fn check_repair<D: Desk>(
 {
     accepted_repairs_hold();
     forms_are_clear();
-    // What this call tells is that it is a space.
-    let _variables = space.variables();
+    space.keeps_invariant();
     match check_answers(alloc, desk, &Repairing { alloc, space }, name, limits) {
         Ok(answered) => Ok(verdict_of(answered)),
         Err(error) => Err(error),

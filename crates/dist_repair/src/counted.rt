@@ -46,8 +46,7 @@ fn push_class(
     ensures ok { OnOk result (HasMore set.old set.new ((no (variable_of space.now (At cluster class)) ∷ yes (moved counter.now cluster) ∷ []) ∷ [])) }
     ensures err { IfErr result (StopsWith set.old ((no (variable_of space.now (At cluster class)) ∷ yes (moved counter.now cluster) ∷ []) ∷ [])) }
 {
-    // What this call tells is that there may be so many variables.
-    let _stated = set.variables();
+    set.keeps_invariant();
     let at = space.variable(&Meaning::At(cluster, class));
     set.push(&[Lit::new(at, false), Lit::new(counter.moved(cluster), true)])
 }
@@ -84,8 +83,7 @@ fn push_carried(
     ensures ok { OnOk result (HasMore set.old set.new ((no (more counter.now before number) ∷ yes (more counter.now (before + 1) number) ∷ []) ∷ [])) }
     ensures err { IfErr result (StopsWith set.old ((no (more counter.now before number) ∷ yes (more counter.now (before + 1) number) ∷ []) ∷ [])) }
 {
-    // What this call tells is that there may be so many variables.
-    let _stated = set.variables();
+    set.keeps_invariant();
     set.push(&[
         Lit::new(counter.more(before, number), false),
         Lit::new(counter.more(before + 1, number), true),
@@ -99,8 +97,7 @@ fn push_first(counter: &Counter, cluster: u32, set: &mut ClauseSet) -> Result<()
     ensures ok { OnOk result (HasMore set.old set.new ((no (moved counter.now cluster) ∷ yes (more counter.now cluster 0) ∷ []) ∷ [])) }
     ensures err { IfErr result (StopsWith set.old ((no (moved counter.now cluster) ∷ yes (more counter.now cluster 0) ∷ []) ∷ [])) }
 {
-    // What this call tells is that there may be so many variables.
-    let _stated = set.variables();
+    set.keeps_invariant();
     set.push(&[
         Lit::new(counter.moved(cluster), false),
         Lit::new(counter.more(cluster, 0), true),
@@ -122,8 +119,7 @@ fn push_next(
     ensures err { IfErr result (StopsWith set.old ((no (moved counter.now (before + 1)) ∷ no (more counter.now before number)
         ∷ yes (more counter.now (before + 1) (number + 1)) ∷ []) ∷ [])) }
 {
-    // What this call tells is that there may be so many variables.
-    let _stated = set.variables();
+    set.keeps_invariant();
     set.push(&[
         Lit::new(counter.moved(before + 1), false),
         Lit::new(counter.more(before, number), false),
@@ -144,8 +140,7 @@ fn push_behind(
     ensures ok { OnOk result (HasMore set.old set.new (count_clauses counter.now (before + 1) number)) }
     ensures err { IfErr result (StopsWith set.old (count_clauses counter.now (before + 1) number)) }
 {
-    // What this call tells is that there may be so many variables.
-    let _stated = set.variables();
+    set.keeps_invariant();
     push_carried(counter, before, number, set)?;
     if number == 0 {
         push_first(counter, before + 1, set)
@@ -274,8 +269,7 @@ pub fn with_counter(
     let mut set = ClauseSet::new(alloc, variables as u32, limits.clauses, limits.literals);
     match push_counted(space, clauses, &counter, &mut set) {
         Ok(()) => {
-            // What this call tells is that the set is within its limits.
-            let _count = set.len();
+            set.keeps_invariant();
             Ok(set)
         }
         Err(error) => {

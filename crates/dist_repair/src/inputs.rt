@@ -1,5 +1,5 @@
 //! What files are judged by, and whether the numbers of a first line are right.
-ghost use Rattle.std.specs.Prelude.{◌≡◌, ◌↔◌, ◌≤◌, IfErr, IfOk, IsTrue, slice_index_or};
+ghost use Rattle.std.specs.Prelude.{◌≡◌, ◌↔◌, ◌≤◌, IfErr, IfOk, IsTrue};
 ghost use Rattle.dist_base.specs.Answers.{IsExactly};
 ghost use Rattle.dist_judge.specs.Causes.{IsLarge};
 ghost use Rattle.dist_outside.specs.declared.trouble.What.{What};
@@ -13,6 +13,7 @@ use crate::counted::with_counter;
 use crate::counter::Counter;
 use dist_base::MAX_MOST;
 use dist_clause::ClauseSet;
+use dist_findings::number_at;
 use dist_outside::{Limits, What, WorkError};
 use dist_space::Space;
 use dist_space_clauses::{
@@ -20,16 +21,6 @@ use dist_space_clauses::{
 };
 use dist_subject::too_large;
 use std::alloc::Global;
-
-/// The number at a place, or 0 past the last one.
-pub(crate) fn number_at(numbers: &[u32], place: usize) -> u32
-    ensures { result ≡ slice_index_or numbers.now place 0 }
-{
-    match numbers.get(place) {
-        Some(number) => *number,
-        None => 0,
-    }
-}
 
 /// The clauses of a space with a counter up to a most behind them, within the limits.
 pub(crate) fn counted_inputs(
@@ -43,8 +34,7 @@ pub(crate) fn counted_inputs(
     ensures ok { IfOk result (AreInputsWithin limits.now space.now most) }
     ensures err { IfErr result (IsLarge (PassesWith space.now most limits.now)) }
 {
-    // What these calls tell is that it is a space, that it has a list of clauses, and how this goes on behind a front.
-    let _variables = space.variables();
+    space.keeps_invariant();
     space_clauses_are_there();
     space_clauses_go_on();
     if Counter::of(space, most).variables() > u64::from(limits.variables) {

@@ -1,5 +1,5 @@
 //! Installations: their truth values, and the clusters that have moved in them.
-ghost use Rattle.std.specs.Prelude.{◌≡◌, ◌⊎◌, ◌↔◌, ◌≤◌, ℕ, Any, Contains, IfOk, OnOk, Some, length};
+ghost use Rattle.std.specs.Prelude.{◌≡◌, ◌⊎◌, ◌↔◌, ◌≤◌, ℕ, Any, Contains, IfOk, OnOk, Some};
 ghost use Rattle.dist_cert.specs.Form.{AreFromOne};
 ghost use Rattle.dist_subject.specs.Present.{truth_of};
 ghost use Rattle.dist_repair.specs.Answered.{moved_in};

@@ -5,12 +5,12 @@ ghost use Rattle.dist_repair.specs.NotesPrivate.{AreWordsOf};
 ghost use Rattle.dist_repair.specs.RepairFiles.{asked_by, repair_files};
 ghost use Rattle.dist_base.specs.declared.TheConstants.{MAX_MOST};
 
-use crate::inputs::{counted_inputs, fits, number_at};
+use crate::inputs::{counted_inputs, fits};
 use crate::notes::Notes;
 use crate::words::Words;
 use dist_base::MAX_MOST;
 use dist_clause::ClauseSet;
-use dist_findings::{Answering, Finding};
+use dist_findings::{Answering, Finding, number_at};
 use dist_outside::{Limits, WorkError};
 use dist_space::{Meaning, Space};
 use std::alloc::{AllocError, Global};
@@ -28,8 +28,7 @@ pub fn words_of(space: &Space, numbers: &[u32]) -> Words
     ensures words { AreWordsOf space.now (asked_by numbers.now) result }
     ensures most { result.most ≤ MAX_MOST }
 {
-    // What this call tells is that the space has variables for its packages.
-    let _variables = space.variables();
+    space.keeps_invariant();
     let most = number_at(numbers, 5);
     Words {
         own: space.variable(&Meaning::Present(number_at(numbers, 4) - 1)),
@@ -54,6 +53,8 @@ impl<'a> Answering for Repairing<'a> {
     fn front(&self) -> &[u8] {
         b"distfuture-repair 1"
     }
+
+    fn front_is_one_line(&self) {}
 
     fn count(&self) -> usize {
         6

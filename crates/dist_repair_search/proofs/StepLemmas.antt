@@ -6,7 +6,7 @@ use Rattle.dist_clause.specs.Formula.{Literal}
 use Rattle.dist_cert.specs.Form.{Word}
 use Rattle.dist_cert.specs.declared.records.CertRecord.{CertRecord}
 use Rattle.dist_cert.specs.declared.records.CertRecord.TheVariants.{Question}
-use Rattle.dist_findings.specs.AnswerFiles.{Inputs}
+use Rattle.dist_findings.specs.AnswerFiles.{Inputs, number_at}
 use Rattle.dist_findings.specs.Findings.{findings, findings_behind}
 use Rattle.dist_findings.specs.SoundLaws.{IsSound}
 use Rattle.dist_findings.specs.declared.finding.Finding.{Finding}
@@ -23,7 +23,7 @@ use Rattle.dist_repair.specs.Answered.{AsksAlone, AsksAt, IsLower, beyond, own}
 use Rattle.dist_repair.specs.Counters.{counted_clauses}
 use Rattle.dist_repair.specs.NotesPrivate.{AreNotesOf, NotesView, WordsView}
 use Rattle.dist_repair.specs.QuestionLaws.{not-both, one-number}
-use Rattle.dist_repair.specs.RepairFiles.{AreCountedInputs, IsDecided, asked_by, most_of, number_at}
+use Rattle.dist_repair.specs.RepairFiles.{AreCountedInputs, IsDecided, asked_by, most_of}
 use Rattle.dist_repair.specs.Searched.{IsBegun, IsFoundAt, LowerDecides, NextDecides}
 use Rattle.dist_solver.specs.declared.answers.Answer.{Answer}
 use Rattle.dist_space.specs.Space.{IsSpace, SpaceView}

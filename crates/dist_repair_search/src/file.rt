@@ -197,9 +197,8 @@ pub fn repair<D: Desk>(
 {
     accepted_repairs_hold();
     let set = repair_inputs(alloc, space, most, limits)?;
-    // What these calls tell is that it is a space, and that the clauses are over its variables.
-    let _variables = space.variables();
-    let _count = set.len();
+    space.keeps_invariant();
+    set.keeps_invariant();
     let numbers = first_numbers(alloc, space, &set, package, most, limit)?;
     answer_with(alloc, space, set, &numbers, desk, name, limit, limits)
 }

@@ -41,8 +41,7 @@ fn ask_alone<D: Desk>(
     ensures grows { Grows (D.view desk.old) (D.view desk.new) }
 {
     file_grows();
-    // What this call tells is that it is a space.
-    let _variables = repairing.space.variables();
+    repairing.space.keeps_invariant();
     let question = words.alone();
     let _answer = ask_and_note(repairing.alloc, repairing, inquirer, notes, desk, &question)?;
     Ok(())
@@ -72,8 +71,7 @@ fn ask_at<D: Desk>(
 {
     file_grows();
     questions_decide();
-    // What this call tells is that it is a space.
-    let _variables = repairing.space.variables();
+    repairing.space.keeps_invariant();
     let question = words.at(number);
     let _answer = ask_and_note(repairing.alloc, repairing, inquirer, notes, desk, &question)?;
     Ok(())

@@ -19,8 +19,7 @@ fn is_invented(classes: &Classes, class: u32) -> bool
 fn is_of_invented(space: &Space, meaning: &Meaning) -> bool
     requires { IsMeaning space.now meaning.now }
 {
-    // What this call tells is that it is a space: the classes of its meanings are there.
-    let _count = space.variables();
+    space.keeps_invariant();
     match meaning {
         Meaning::Now | Meaning::Present(_) => false,
         Meaning::At(cluster, class) => is_invented(space.classes(*cluster), *class),

@@ -1,5 +1,5 @@
 //! Worked rows: the classes of each cluster and of each new name, with their examples.
-ghost use Rattle.std.specs.Prelude.{◌+◌, ◌<◌, ◌≤◌, length};
+ghost use Rattle.std.specs.Prelude.{◌+◌, ◌<◌, length};
 ghost use Rattle.dist_classes.specs.Answers.{AreClustersOf};
 ghost use Rattle.dist_classes.specs.ClassList.{HasVersions};
 

@@ -88,7 +88,7 @@ fn put_strong<D: Desk>(
     ensures grows { Grows (D.view desk.old) (D.view desk.new) }
 {
     file_grows();
-    let _stated = asker.variables();
+    asker.keeps_invariant();
     let (step, claim) = strong_line(alloc, window, group)?;
     asker.put(desk, &step)?;
     Ok(claim)
@@ -148,7 +148,7 @@ pub(crate) fn settle<D: Desk>(
     ensures grows { Grows (D.view desk.old) (D.view desk.new) }
 {
     file_grows();
-    let _stated = asker.variables();
+    asker.keeps_invariant();
     let question = alone(alloc, package)?;
     match ask(asker, desk, &question, &[], None)? {
         Reply::Found(values) => {

@@ -1,7 +1,6 @@
 //! The group of a claim: each package that may be strongly needed is asked for once.
-ghost use Rattle.std.specs.Prelude.{◌≡◌, ◌≢◌, ◌≤◌, IfErr, IfOk, OnOk};
+ghost use Rattle.std.specs.Prelude.{◌≡◌, IfErr, IfOk, OnOk};
 ghost use Rattle.dist_outside.specs.Files.{IsWriting};
-ghost use Rattle.dist_line_write.specs.Asking.{IsOver};
 ghost use Rattle.dist_line_write.specs.Script.{Grows};
 ghost use Rattle.dist_strong.specs.Candidates.{AreCandidates};
 ghost use Rattle.dist_strong.specs.Group.{HasNoCandidate, IsCandidate};

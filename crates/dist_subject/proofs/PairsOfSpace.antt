@@ -1,14 +1,14 @@
 -- What a certificate says of clusters, packages and pairs is what the space says of them.
-use Rattle.std.proofs.Common.{◌≡◌, ◌↔◌, inl, inr, ⊎_elim, ℕ, ◌+◌, ◌-◌, ◌<◌, ◌≤◌, Bool, true, false, List, [], length, get_or, map, Some, refl, sym, ap}
-use Rattle.std.proofs.Common.{subst, ◌∙◌, arith, slice_get}
-use Rattle.std.specs.List.{All, Contains, range_with_len}
+use Rattle.std.proofs.Common.{◌≡◌, ◌↔◌, inl, inr, ⊎_elim, ℕ, ◌+◌, ◌-◌, ◌<◌, ◌≤◌, Bool, true, false, List, [], length, get_or, map, sym, ap}
+use Rattle.std.proofs.Common.{subst, ◌∙◌, arith}
+use Rattle.std.specs.List.{Contains, range_with_len}
 use Rattle.std.proofs.lemmas.Bool.{cases_Bool, cases_lt, false≢true}
 use Rattle.std.proofs.lemmas.List.{get_or-map, get_or_past, length-map}
 use Rattle.std.proofs.lemmas.List.Elements.{All-contains}
 use Rattle.std.proofs.lemmas.List.FromFn.{get_or-map-range_with_len, length-range_with_len}
 use Rattle.std.proofs.lemmas.Option.{get_or_from_slice_get}
 use Rattle.dist_base.specs.ListLaws.{all-contained, at-has, element-at, here-at}
-use Rattle.dist_clause.specs.Formula.{Literal, value_of}
+use Rattle.dist_clause.specs.Formula.{Literal}
 use Rattle.dist_cert.specs.ClaimRules.{Covers, HasNone, IsPairFor}
 use Rattle.dist_cert.specs.ListLaws.{any-from, from-any}
 use Rattle.dist_cert.specs.Rising.{is_among}
@@ -18,7 +18,7 @@ use Rattle.dist_cluster.specs.Partition.{IsIn}
 use Rattle.dist_future.specs.Pairs as pairs
 use Rattle.dist_future.specs.SpaceLaws.{holds_under}
 use Rattle.dist_space.specs.ClusterLaws.{in-package, placed-in}
-use Rattle.dist_space.specs.Space.{IsMeaning, IsSpace, SpaceView, cluster_classes, member_classes, variable_of}
+use Rattle.dist_space.specs.Space.{IsMeaning, IsSpace, SpaceView, cluster_classes, variable_of}
 use Rattle.dist_space.specs.VariableLaws.{variable-range}
 use Rattle.dist_space.specs.declared.meaning.Meaning.{Meaning}
 use Rattle.dist_space.specs.declared.meaning.Meaning.TheVariants.{At, New, Present}

@@ -14,8 +14,8 @@ use Rattle.dist_future.specs.HealthLaws.{IsHealthyIn, StandsForHealthy}
 use Rattle.dist_cert.specs.Subject.{Matter}
 use Rattle.dist_cert.specs.declared.records.CertKind.{CertKind}
 use Rattle.dist_cert.specs.declared.records.CertKind.TheVariants.{Strong, Outdated, Challenged}
-use Rattle.dist_subject.specs.Basis.{Basis, Today, Later, IsBasisOf, IsLaterOf, matter_of}
-use Rattle.dist_subject.specs.Installed.{AreModelsHealthy, AreTrueOf, ModelsStand}
+use Rattle.dist_subject.specs.Basis.{Basis, Today, Later, IsBasisOf, matter_of}
+use Rattle.dist_subject.specs.Installed.{AreModelsHealthy}
 use Rattle.dist_subject.specs.Later.{later_matter}
 use Rattle.dist_subject.specs.MemberLaws.{installed-exactly}
 use Rattle.dist_subject.specs.Present.{present_matter, truth_of}

@@ -1,14 +1,9 @@
 -- The truth values of listed variables.
-use Rattle.std.proofs.Common.{◌≡◌, ℕ, ◌+◌, ◌-◌, ◌<◌, Bool, false, List, length, get_or, sym, ap, subst, ◌∙◌, arith}
+use Rattle.std.proofs.Common.{◌≡◌, ℕ, ◌+◌, ◌-◌, ◌<◌, Bool, false, List, length, get_or, ap, ◌∙◌, arith}
 use Rattle.std.proofs.lemmas.List.{ext_get_or}
-use Rattle.dist_clause.specs.Formula.{Literal, value_of, IsModel}
-use Rattle.dist_repo.specs.PackageList.{PackageList}
-use Rattle.dist_repo.specs.Strong.{IsInstallation}
-use Rattle.dist_now.specs.Members.{members_of}
-use Rattle.dist_now.specs.PresentLaws.{AreModelsInstallations}
 use Rattle.dist_subject.specs.TruthLaws.{truth-at, truth-length}
 use Rattle.dist_subject.specs.Installed.{AreTrueOf}
-use Rattle.dist_subject.specs.Present.{truth_of, packages_of}
+use Rattle.dist_subject.specs.Present.{truth_of}
 use Rattle.dist_cert.specs.ListLaws.{any-from, both-flags, from-any}
 use Rattle.dist_cert.specs.Rising.{is_among}
 

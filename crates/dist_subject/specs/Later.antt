@@ -1,5 +1,5 @@
 -- What a certificate of kind outdated or challenged speaks of: the futures of the packages, by their space.
-use Rattle.std.specs.Prelude.{ℕ, ◌+◌, ◌-◌, Bool, List, [], length, map, slice_index_or}
+use Rattle.std.specs.Prelude.{ℕ, ◌+◌, ◌-◌, List, [], length, map, slice_index_or}
 use Rattle.std.specs.List.{range_with_len}
 use Rattle.dist_clause.specs.Formula.{Literal}
 use Rattle.dist_space.specs.Space.{SpaceView, cluster_classes, variable_of}

@@ -9,7 +9,7 @@ use Rattle.dist_repo.specs.declared.package.Package.{Package}
 use Rattle.dist_cert.specs.ClaimRules.{Covers}
 use Rattle.dist_cert.specs.Subject.{Matter}
 use Rattle.dist_classes.specs.declared.class_value.Class.TheVariants.{Above, Between, Point}
-use Rattle.dist_future.specs.SpaceLaws.{future_under, installation_under}
+use Rattle.dist_future.specs.SpaceLaws.{future_under}
 use Rattle.dist_space.specs.Space.{SpaceView}
 use Rattle.dist_space.specs.declared.meaning.Meaning.TheVariants.{Now, Present, At, New}
 use Rattle.dist_subject.specs.Later.{cluster_of, later_matter}

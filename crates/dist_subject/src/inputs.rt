@@ -1,5 +1,5 @@
 //! The input clauses of what certificates are judged by, within the limits.
-ghost use Rattle.std.specs.Prelude.{◌≡◌, ◌≢◌, IfErr, IfOk, length};
+ghost use Rattle.std.specs.Prelude.{◌≡◌, ◌≢◌, IfErr, IfOk};
 ghost use Rattle.dist_base.specs.Answers.{IsExactly};
 ghost use Rattle.dist_cert.specs.declared.records.CertKind.{CertKind};
 ghost use Rattle.dist_cert.specs.declared.records.CertKind.TheVariants.{Strong};
@@ -14,7 +14,7 @@ ghost use Rattle.dist_subject.specs.Basis.{Later, Today};
 ghost use Rattle.dist_judge.specs.Causes.{IsLarge};
 ghost use Rattle.dist_subject.specs.Inputs.{AreInputsOf, large_by};
 ghost use Rattle.dist_subject.specs.InputsPrivate.{IsSpaceWithin, PassesSpace};
-ghost use Rattle.dist_subject.specs.Limited.{AreStated, OfSpace, PassesLater, PassesPresent};
+ghost use Rattle.dist_subject.specs.Limited.{AreStated, PassesLater, PassesPresent};
 
 use crate::limit_laws::first_numbers_are_one;
 use dist_clause::{ClauseSet, PushError};
@@ -60,11 +60,10 @@ pub fn present_inputs(
     ensures cause { IfErr result (IsLarge (PassesPresent repo.now essential limits.now)) }
 {
     first_numbers_are_one();
-    // The packages of a repository are in order.
-    let _packages = repo.len();
+    repo.keeps_invariant();
     match clauses_of(alloc, repo, essential, limits.clauses, limits.literals) {
         Ok(inputs) => {
-            let _within = inputs.len();
+            inputs.keeps_invariant();
             Ok(inputs)
         }
         Err(error) => Err(too_large(error)),
@@ -126,11 +125,10 @@ pub fn later_inputs(
     ensures cause { IfErr result (IsLarge (PassesLater repo.now essential limits.now)) }
 {
     first_numbers_are_one();
-    // The packages of a repository are in order.
-    let _packages = repo.len();
+    repo.keeps_invariant();
     let space = newest_space(alloc, repo, essential, limits)?;
     let (clauses, ends) = space_clauses(alloc, &space, limits)?;
-    let _within = clauses.len();
+    clauses.keeps_invariant();
     Ok(LaterInputs {
         space,
         clauses,

@@ -8,7 +8,6 @@ use Rattle.dist_derive.specs.ClauseLog.{ClauseLog}
 use Rattle.dist_outside.specs.declared.limits.Limits.{Limits}
 use Rattle.dist_repo.specs.Order.{IsInOrder}
 use Rattle.dist_repo.specs.PackageList.{PackageList}
-use Rattle.dist_cert.specs.Form.{HasHeaderForm, header_text}
 use Rattle.dist_cert.specs.PartByRecordsLaws.{IsHeaderOf}
 use Rattle.dist_cert.specs.declared.records.CertKind.{CertKind}
 use Rattle.dist_cert.specs.declared.records.Header.{Header}

@@ -19,7 +19,6 @@ use Rattle.dist_line_write.specs.Asking.{is_derived, question_lines}
 use Rattle.dist_line_write.specs.Words.{true_variables}
 use Rattle.dist_sweep.specs.Asking.{IsReplyLine}
 use Rattle.dist_sweep.specs.declared.asking.Reply.{Reply}
-use Rattle.dist_cert.specs.ClaimRules.{no}
 use Rattle.dist_sweep.specs.declared.asking.Reply.TheVariants as replies
 
 pub derived-opens : (step : CertRecord) → is_derived step ≡ true → leaves_open step ≡ true

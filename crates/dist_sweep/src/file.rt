@@ -1,9 +1,7 @@
 //! The file of a sweep, from the first line of its certificate to the last.
-ghost use Rattle.std.specs.Prelude.{◌≡◌, ◌≤◌, ℕ, [], IfErr, IfOk, OnErr, OnOk, length};
+ghost use Rattle.std.specs.Prelude.{◌≡◌, ◌≤◌, ℕ, IfErr, IfOk, length};
 ghost use Rattle.dist_cert.specs.Form.{KeepsLimit};
-ghost use Rattle.dist_outside.specs.DeskView.{Closed, Holds, NotCreated};
-ghost use Rattle.dist_outside.specs.Files.{IsNotWriting, IsWriting, Writing, where_told};
-ghost use Rattle.dist_outside.specs.Reading.{DeskWriteCause};
+ghost use Rattle.dist_outside.specs.Files.{IsNotWriting, IsWriting};
 ghost use Rattle.dist_line_write.specs.Script.{Grows};
 ghost use Rattle.dist_sweep.specs.Sweeping.{ClaimsMore, ClaimsStop, FileAnswers, SweepMore, SweepStops};
 

@@ -66,6 +66,15 @@ impl Window {
         self.kept.len() as u32
     }
 
+    /// No more installations are kept than there were, which 32 bits can number. Does nothing.
+    pub fn keeps_invariant(&self)
+        ensures within { length self.now.kept ≤ self.now.count }
+        ensures few { self.now.count < 2 ^ 32 }
+    {
+        self.count();
+        self.len();
+    }
+
     /// Whether the installation of a number, which is kept, has a variable.
     pub fn has(&self, number: u32, variable: u32) -> bool
         requires low { self.now.count < number + length self.now.kept }

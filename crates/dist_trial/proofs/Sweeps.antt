@@ -1,5 +1,5 @@
 -- What comes of a sweep and of the check of its file.
-use Rattle.std.proofs.Common.{◌≡◌, ◌≢◌, ◌∙◌, ◌≤◌, ◌⊎◌, inl, inr, ℕ, Bool, cond, false, List, length, Option, Some, Result, Ok, Err, refl, ap, subst, arith}
+use Rattle.std.proofs.Common.{◌≡◌, ◌≢◌, ◌∙◌, ◌≤◌, inl, inr, ℕ, Bool, cond, false, List, length, Option, Some, Result, Ok, Err, refl, ap, subst, arith}
 use Rattle.std.proofs.lemmas.Cmp.{nat_list_cmp_total}
 use Rattle.std.specs.Cmp.{eq_by_cmp_equiv}
 use Rattle.std.specs.FinMap.{get, insert, get-insert}
@@ -21,7 +21,8 @@ use Rattle.dist_cert.specs.declared.records.CertKind.{CertKind}
 use Rattle.dist_cert.specs.declared.records.CertKind.TheVariants as kinds
 use Rattle.dist_subject.specs.Basis.{matter_of}
 use Rattle.dist_sweep.specs.Sweep.{SweepAnswers, header_of}
-use Rattle.dist_check.specs.Answers.{Answers, IsOfText, IsVerdict}
+use Rattle.dist_check.specs.Answers.{Answers, IsVerdict}
+use Rattle.dist_judge.specs.Causes.{IsOfText}
 use Rattle.dist_judge.specs.Judging.{OfText}
 use Rattle.dist_check.specs.Means.{Means}
 use Rattle.dist_check.specs.declared.verdict.Verdict.{Verdict}

@@ -71,8 +71,7 @@ pub(crate) fn claims_of(
     latest_is_one();
     texts_have_one_verdict();
     texts_have_one_answer();
-    // The packages of a repository are in order.
-    let _ = repo.len();
+    repo.keeps_invariant();
     let mut desk = MemoryDesk::new(alloc, usize::MAX, &[])?;
     match write(alloc, repo, kind, &mut desk, limits) {
         Ok(_) => {}

@@ -1,5 +1,5 @@
 //! The lines of a summary.
-ghost use Rattle.std.specs.Prelude.{◌≡◌, ◌++◌, ◌*◌, ◌≤◌, IfOk, OnOk, codes, length, sum_by};
+ghost use Rattle.std.specs.Prelude.{◌≡◌, ◌++◌, ◌*◌, ◌≤◌, IfOk, OnOk, length, sum_by};
 ghost use Rattle.dist_base.specs.declared.TheConstants.{MAX_PACKAGES};
 ghost use Rattle.dist_trial.specs.FiguresPrivate.{figure_in};
 ghost use Rattle.dist_trial.specs.Summary.{all_marks, has_marks, number_line, summary_text};

@@ -1,5 +1,5 @@
 //! A trial, stage by stage.
-ghost use Rattle.std.specs.Prelude.{◌≡◌, ◌≤◌, ◌<◌, false, length};
+ghost use Rattle.std.specs.Prelude.{◌≤◌, ◌<◌, false, length};
 ghost use Rattle.dist_base.specs.declared.TheConstants.{MAX_SIZE};
 ghost use Rattle.dist_base.specs.Answers.{IsExactly};
 ghost use Rattle.dist_cert.specs.declared.records.CertKind.{CertKind};

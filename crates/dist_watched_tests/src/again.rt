@@ -1,6 +1,6 @@
 //! Questions that one solver is asked again: each at once for every line, and all in another order. They are hard enough for
 //! many lines, and no guess at a line or an answer fails its test. In each eighth set one variable is a hub of the quick phase.
-ghost use Rattle.std.specs.Prelude.{◌≡◌, ◌≤◌, IfSome};
+ghost use Rattle.std.specs.Prelude.{◌≡◌, IfSome};
 ghost use Rattle.dist_clause.specs.Formula.{IsClauseOver};
 
 use crate::literals::add;

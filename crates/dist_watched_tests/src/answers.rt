@@ -1,5 +1,5 @@
 //! The solver over small clause sets: each of its answers is compared with trying all assignments, and no guess fails its test.
-ghost use Rattle.std.specs.Prelude.{◌≡◌, ◌≤◌, length, IfSome};
+ghost use Rattle.std.specs.Prelude.{◌≡◌};
 ghost use Rattle.dist_clause.specs.Formula.{IsClauseOver};
 
 use crate::literals::add;

@@ -1,5 +1,5 @@
 //! Clauses of literals that are not known to be of variables in range, each once.
-ghost use Rattle.std.specs.Prelude.{◌≡◌, ◌≢◌, ◌≤◌, All, IfSome, IsTrue};
+ghost use Rattle.std.specs.Prelude.{◌≢◌, ◌≤◌, All, IfSome, IsTrue};
 ghost use Rattle.dist_clause.specs.Formula.{IsClauseOver};
 
 use dist_clause::Lit;

@@ -1,5 +1,5 @@
 //! The quick phase, of which each guess is tested: at worked rows, and at small clause sets, compared with trying all assignments.
-ghost use Rattle.std.specs.Prelude.{◌≡◌, ◌≤◌, length, IfSome};
+ghost use Rattle.std.specs.Prelude.{◌≡◌, ◌≤◌, IfSome};
 ghost use Rattle.dist_clause.specs.Formula.{IsClauseOver};
 
 use crate::literals::add;

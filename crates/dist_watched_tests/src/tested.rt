@@ -1,5 +1,5 @@
 //! A search of which each answer is tested.
-ghost use Rattle.std.specs.Prelude.{◌≡◌, ◌≤◌, length, IfSome};
+ghost use Rattle.std.specs.Prelude.{◌≡◌, ◌≤◌, length};
 ghost use Rattle.dist_clause.specs.Formula.{IsClauseOver};
 
 use crate::literals::clause_of;

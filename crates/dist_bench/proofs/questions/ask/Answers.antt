@@ -8,6 +8,5 @@ pub returns-in-Ok-clause-right : goal.returns-in-Ok-clause-right
 returns-in-Ok-clause-right c =
     right-of c.args.solver.now.log c.ask.new.self.log c.args.assumptions.now DEFAULT_LIMIT c.in-Ok.answer
     (inputs-stay c.args.solver.now.log c.ask.new.self.log c.ask.new.self.derived c.args.assumptions.now DEFAULT_LIMIT
-    (subst (λ (l : ClauseLog). l.inputs ≤ length l.clauses) c.log.ensures.value
-    (subst (λ n. n ≤ length c.log.result.now.clauses) c.inputs-within.ensures.value c.inputs-within.ensures.within)) c.in-Ok.ensures.adds)
+    (subst (λ (l : ClauseLog). l.inputs ≤ length l.clauses) c.log.ensures.value c.keeps_invariant.ensures.inputs) c.in-Ok.ensures.adds)
     c.in-Ok.ensures.answer

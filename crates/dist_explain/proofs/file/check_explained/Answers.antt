@@ -46,6 +46,6 @@ returns-in-Ok-Accepted-clause-means g c =
     let some = subst (λ a. (text : List ℕ)
     × FileAnswers (explanation_files r) limits (λ ns found notes. AreNotesOf (asked_by ns) found notes) text (Ok a)) c.in-Ok-Accepted.field-0-is
     c.in-Ok-Accepted.ensures.some in
-    c.accepted_explanations_hold.ensures r limits some.0 c.header_by-header.result c.answer.result c.len-packages.ensures.in_order
+    c.accepted_explanations_hold.ensures r limits some.0 c.header_by-header.result c.answer.result c.keeps_invariant.ensures.in_order
     (accepted-answers c.forms_are_clear.ensures r limits some.0 numbers c.header_by-header.result c.in-Ok-Accepted.notes c.answer.result same
     c.answer.ensures some.1)

@@ -2,7 +2,6 @@ use Rattle.std.proofs.Common.{Result}
 use Rattle.std.proofs.lemmas.Result.{IfOk-weaker}
 use Rattle.dist_base.specs.Answers.{IsExactly}
 use Rattle.dist_clause.specs.ClauseList.{ClauseList}
-use Rattle.dist_outside.specs.declared.trouble.What.{What}
 use Rattle.dist_outside.specs.declared.trouble.WorkError.{WorkError}
 use Rattle.dist_outside.specs.declared.trouble.WorkError.TheVariants.{NoMemory, TooLarge}
 use Rattle.dist_explain.specs.ExplanationFiles.{AreSelectedInputs, PassesFirst}

@@ -1,4 +1,3 @@
-use Rattle.dist_explain.proofs.OneExplanation.{Numbers}
 use Rattle.dist_explain.proofs.Verdicts.{one, right, some}
 use Rattle.dist_explain.proofs.laws.explanation_texts_have_one_verdict.Goals as goal
 

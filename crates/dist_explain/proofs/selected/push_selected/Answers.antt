@@ -14,21 +14,21 @@ written n v p clauses items clause now a b c d = a ∙ b ∙ ap (λ (x : List Li
     ∙ ap (λ (m : ℕ). clause_at clauses (p + 1) ++ literal (m + p + 1) false ∷ []) d
 
 pub overflow_add-selector : goal.overflow_add-selector
-overflow_add-selector c = let h = c.variables.ensures.value in let v = c.requires.front.variables in let m = c.variables-stated.ensures.value in
-    let s = c.variables-stated.ensures.stated in let p = c.requires.place in omega (arith, h, v, m, s, p)
+overflow_add-selector c = let h = c.variables.ensures.value in let v = c.requires.front.variables in
+    let s = c.keeps_invariant.ensures.variables in let p = c.requires.place in omega (arith, h, v, s, p)
 
 pub overflow_add-selector-2 : goal.overflow_add-selector-2
-overflow_add-selector-2 c = let h = c.variables.ensures.value in let v = c.requires.front.variables in let m = c.variables-stated.ensures.value in
-    let s = c.variables-stated.ensures.stated in let p = c.requires.place in omega (arith, h, v, m, s, p)
+overflow_add-selector-2 c = let h = c.variables.ensures.value in let v = c.requires.front.variables in
+    let s = c.keeps_invariant.ensures.variables in let p = c.requires.place in omega (arith, h, v, s, p)
 
 pub overflow_add-place : goal.overflow_add-place
-overflow_add-place c = let h = c.variables.ensures.value in let v = c.requires.front.variables in let m = c.variables-stated.ensures.value in
-    let s = c.variables-stated.ensures.stated in let p = c.requires.place in omega (arith, h, v, m, s, p)
+overflow_add-place c = let h = c.variables.ensures.value in let v = c.requires.front.variables in
+    let s = c.keeps_invariant.ensures.variables in let p = c.requires.place in omega (arith, h, v, s, p)
 
 pub write_selected-requires-clause-in_range : goal.write_selected-requires-clause-in_range
 write_selected-requires-clause-in_range c =
-    let h = c.variables.ensures.value in let v = c.requires.front.variables in let m = c.variables-stated.ensures.value in
-    let s = c.variables-stated.ensures.stated in let p = c.requires.place in omega (arith, h, v, m, s, p)
+    let h = c.variables.ensures.value in let v = c.requires.front.variables in
+    let s = c.keeps_invariant.ensures.variables in let p = c.requires.place in omega (arith, h, v, s, p)
 
 pub push-requires : goal.push-requires
 push-requires c =

@@ -21,6 +21,6 @@ returns-in-Ok-clause-exact c = λ what memory. (
       let v = c.variables.ensures.value in
       let sized = c.len-count.ensures.value in
       let kept = c.if-variables-limits.false in
-      absurd (all-kept c.args.clauses.now c.push_all_selected.new.set c.args.limits.now what told.ok c.len-count-in-Ok.ensures.within limit
+      absurd (all-kept c.args.clauses.now c.push_all_selected.new.set c.args.limits.now what told.ok c.keeps_invariant.ensures.within limit
       (omega (arith, n, v, kept, sized)) passes),
 )

@@ -24,7 +24,7 @@ returns-clause-answers g c =
     let first = c.len-packages.ensures.value in
     let second = c.variables-variables.ensures.value in
     explain-answers r number limit c.args.limits.now set c.in_ok-set.ensures.ok c.requires.«package» c.requires.from_one c.requires.upto
-    c.len-count.ensures.within.over_variables (record { packages = packages; relations = variables - packages; number = number + 1 })
+    c.keeps_invariant.ensures.within.over_variables (record { packages = packages; relations = variables - packages; number = number + 1 })
     (asked-is r number limit set packages variables first second) c.deref.result.now
     (told-is r number limit set packages variables first second c.deref.result.now (c.deref.ensures.value ∙ c.in_ok-numbers.ensures.value))
     (subst (All IsSmall) (sym c.deref.ensures.value) c.in_ok-numbers.ensures.small) c.args.name.now (g.D.Desk.view c.args.desk.now)

@@ -58,7 +58,7 @@ returns-in_err-begun-clause-text g c =
     by_exit (λ r. OfText told (λ text. TextAnswers file c.args.limits.now (λ x. x.numbers.items)
     (λ x found. g.A.Answering.noted c.args.answering.now x.numbers.items found x.notes) text r))
     c.from_residual-in_err-begun.result c.in_err-begun.field-0.0 c.from_residual-in_err-begun.ensures.1
-    (begin-stops file (clear_files c.forms_are_clear.ensures file c.front-front.ensures.one_line) c.args.limits.now c.new-reader.result c.first.new.self told
+    (begin-stops file (clear_files c.forms_are_clear.ensures file c.front_is_one_line.ensures) c.args.limits.now c.new-reader.result c.first.new.self told
     left after c.deref.result.now c.new-reader.ensures (nothing_read c.args.limits.now c.new-reader.result old c.new-reader.ensures) answers
     c.in_err-begun.field-0.0 c.in_err-begun.ensures.err)
 
@@ -71,7 +71,7 @@ returns-in_err-begun-clause-some g c =
     (λ x found. g.A.Answering.noted c.args.answering.now x.numbers.items found x.notes) text r)
     c.from_residual-in_err-begun.result c.in_err-begun.field-0.0 c.from_residual-in_err-begun.ensures.1 (
       text,
-      begin-stops file (clear_files c.forms_are_clear.ensures file c.front-front.ensures.one_line) c.args.limits.now c.new-reader.result c.first.new.self
+      begin-stops file (clear_files c.forms_are_clear.ensures file c.front_is_one_line.ensures) c.args.limits.now c.new-reader.result c.first.new.self
           (Some text) (Some text) (Some []) c.deref.result.now c.new-reader.ensures refl ([], refl, some [])
           c.in_err-begun.field-0.0 c.in_err-begun.ensures.err,
     )
@@ -82,7 +82,7 @@ answers_behind-requires-clause-start g c =
     let numbers : List ℕ = c.in_ok-begun.begun.numbers.items in
     let some = subst (λ (l : List ℕ). FirstOfSome c.new-reader.result (Ok l)) (sym c.deref.ensures.value) c.in_ok-line.ensures.some in
     let gives = subst (λ (l : List ℕ). GivesFirst c.new-reader.result c.first.new.self (Ok l)) (sym c.deref.ensures.value) c.in_ok-line.ensures.gives in
-    begins-checked file (clear_files c.forms_are_clear.ensures file c.front-front.ensures.one_line) c.args.limits.now c.new-reader.result c.first.new.self
+    begins-checked file (clear_files c.forms_are_clear.ensures file c.front_is_one_line.ensures) c.args.limits.now c.new-reader.result c.first.new.self
     None None None c.deref.result.now c.new-reader.ensures refl refl (g.A.Answering.noted c.args.answering.now) some gives numbers
     c.in_ok-begun.begun.kept.checker c.in_ok-begun.begun.kept.notes c.in_ok-begun.ensures.ok c.in_ok-begun.ensures.noted
 
@@ -100,7 +100,7 @@ returns-clause-text g c =
     let some = subst (λ (l : List ℕ). FirstOfSome c.new-reader.result (Ok l)) (sym c.deref.ensures.value) c.in_ok-line.ensures.some in
     let gives = subst (λ (l : List ℕ). GivesFirst c.new-reader.result c.first.new.self (Ok l)) (sym c.deref.ensures.value) c.in_ok-line.ensures.gives in
     c.answers_behind.ensures.text told
-    (begins-checked file (clear_files c.forms_are_clear.ensures file c.front-front.ensures.one_line) c.args.limits.now c.new-reader.result c.first.new.self
+    (begins-checked file (clear_files c.forms_are_clear.ensures file c.front_is_one_line.ensures) c.args.limits.now c.new-reader.result c.first.new.self
     told left after c.deref.result.now c.new-reader.ensures (nothing_read c.args.limits.now c.new-reader.result old c.new-reader.ensures) answers
     (g.A.Answering.noted c.args.answering.now) some gives numbers c.in_ok-begun.begun.kept.checker c.in_ok-begun.begun.kept.notes
     c.in_ok-begun.ensures.ok c.in_ok-begun.ensures.noted)

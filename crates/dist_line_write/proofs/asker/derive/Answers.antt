@@ -1,5 +1,5 @@
-use Rattle.std.proofs.Common.{◌≡◌, ◌∙◌, length, List, Result, IfErr, ap, sym, subst}
-use Rattle.dist_derive.specs.ClauseLog.{ClauseLog, IsWithinLineLimits}
+use Rattle.std.proofs.Common.{◌≡◌, ◌∙◌, List, Result, IfErr, ap, sym, subst}
+use Rattle.dist_derive.specs.ClauseLog.{ClauseLog}
 use Rattle.dist_outside.specs.DeskView.{DeskView, FileGrew}
 use Rattle.dist_outside.specs.declared.trouble.WorkError.{WorkError}
 use Rattle.dist_solver.specs.Ask.{IsAnswer}
@@ -24,7 +24,7 @@ pub put_derived-requires-clause-derived : goal.put_derived-requires-clause-deriv
 put_derived-requires-clause-derived g c =
     let new : ClauseLog = c.ask_with-answer.new.self.log in
     let adds = c.ask_with-answer.ensures.adds in
-    subst (λ (l : ClauseLog). AreDerived l.clauses c.derived.result.now) (sym c.log-3.ensures.value)
+    subst (λ (l : ClauseLog). AreDerived l.clauses c.derived.result.now) (sym c.log-2.ensures.value)
     (subst (λ (d : List DerivedLine). AreDerived new.clauses d) (sym c.derived.ensures)
     (derived-over c.args.solver.now.log.clauses adds.lines c.ask_with-answer.new.self.derived new.clauses adds.follow (ap (λ (l : ClauseLog). l.clauses)
     adds.log)))
@@ -35,17 +35,14 @@ returns-in_err-put_derived-clause-err g c =
     let ds : List DerivedLine = c.ask_with-answer.new.self.derived in
     let first : DeskView = g.D.Desk.view c.args.desk.now in
     let last : DeskView = g.D.Desk.view c.put_derived.new.desk in
-    let within = subst IsWithinLineLimits c.log-2.ensures.value c.len-within.ensures.within in
-    let variables = c.variables-stated.ensures.value ∙ ap (λ (l : ClauseLog). l.variables) c.log.ensures.value in
-    let count = c.len-within.ensures.value ∙ ap (λ (l : ClauseLog). length l.clauses) c.log-2.ensures.value in
-    let small = small-log new c.variables-stated.result c.len-within.result variables c.variables-stated.ensures.stated count c.len-within.ensures.stated_total
-    within in
+    let small = small-log c.log.result.now new c.log.ensures.value c.keeps_invariant.ensures.variables c.keeps_invariant.ensures.clauses
+    c.keeps_invariant.ensures.within in
     by-exit (λ (r : Result Answer WorkError). IfErr r (DerivesNone c.args.solver.now.log c.args.assumptions.now c.args.limit first last c.args.writer.now))
     c.from_residual.result c.in_err-put_derived.field-0.0 c.from_residual.ensures.1
     (derives-stopped c.args.solver.now.log new ds c.args.assumptions.now c.args.limit first last c.args.writer.now c.in_err-put_derived.field-0.0
     c.ask_with-answer.ensures.adds small
     (subst (λ (ls : List CertRecord). PutAllStops c.args.writer.now ls first last c.in_err-put_derived.field-0.0)
-    (same-lines c.log-3.result.now new c.derived.result.now ds c.log-3.ensures.value c.derived.ensures) c.in_err-put_derived.ensures.err))
+    (same-lines c.log-2.result.now new c.derived.result.now ds c.log-2.ensures.value c.derived.ensures) c.in_err-put_derived.ensures.err))
 
 pub returns-in-Ok-clause-ok : goal.returns-in-Ok-clause-ok
 returns-in-Ok-clause-ok g c =
@@ -53,12 +50,9 @@ returns-in-Ok-clause-ok g c =
     let ds : List DerivedLine = c.ask_with-answer.new.self.derived in
     let first : DeskView = g.D.Desk.view c.args.desk.now in
     let last : DeskView = g.D.Desk.view c.put_derived.new.desk in
-    let within = subst IsWithinLineLimits c.log-2.ensures.value c.len-within.ensures.within in
-    let variables = c.variables-stated.ensures.value ∙ ap (λ (l : ClauseLog). l.variables) c.log.ensures.value in
-    let count = c.len-within.ensures.value ∙ ap (λ (l : ClauseLog). length l.clauses) c.log-2.ensures.value in
-    let small = small-log new c.variables-stated.result c.len-within.result variables c.variables-stated.ensures.stated count c.len-within.ensures.stated_total
-    within in
-    let lines = same-lines c.log-3.result.now new c.derived.result.now ds c.log-3.ensures.value c.derived.ensures in
+    let small = small-log c.log.result.now new c.log.ensures.value c.keeps_invariant.ensures.variables c.keeps_invariant.ensures.clauses
+    c.keeps_invariant.ensures.within in
+    let lines = same-lines c.log-2.result.now new c.derived.result.now ds c.log-2.ensures.value c.derived.ensures in
     derives c.args.solver.now.log new ds c.args.assumptions.now c.args.limit first last c.args.writer.now c.put_derived.new.writer
     c.in-Ok.answer c.ask_with-answer.ensures.adds small
     (subst (λ (r : Result Answer AskError). IsAnswer c.args.solver.now.log new c.args.assumptions.now c.args.limit r) c.in-Ok.is
@@ -78,12 +72,9 @@ returns-in-Err-clause-err g c =
     let ds : List DerivedLine = c.ask_with-answer.new.self.derived in
     let first : DeskView = g.D.Desk.view c.args.desk.now in
     let last : DeskView = g.D.Desk.view c.put_derived.new.desk in
-    let within = subst IsWithinLineLimits c.log-2.ensures.value c.len-within.ensures.within in
-    let variables = c.variables-stated.ensures.value ∙ ap (λ (l : ClauseLog). l.variables) c.log.ensures.value in
-    let count = c.len-within.ensures.value ∙ ap (λ (l : ClauseLog). length l.clauses) c.log-2.ensures.value in
-    let small = small-log new c.variables-stated.result c.len-within.result variables c.variables-stated.ensures.stated count c.len-within.ensures.stated_total
-    within in
-    let lines = same-lines c.log-3.result.now new c.derived.result.now ds c.log-3.ensures.value c.derived.ensures in
+    let small = small-log c.log.result.now new c.log.ensures.value c.keeps_invariant.ensures.variables c.keeps_invariant.ensures.clauses
+    c.keeps_invariant.ensures.within in
+    let lines = same-lines c.log-2.result.now new c.derived.result.now ds c.log-2.ensures.value c.derived.ensures in
     subst (λ (e : WorkError). DerivesNone c.args.solver.now.log c.args.assumptions.now c.args.limit first last c.args.writer.now e) (sym c.work_error.ensures)
     (derives-none c.file_grows.ensures.begin c.file_grows.ensures.twice c.args.solver.now.log new ds c.args.assumptions.now c.args.limit first last
     c.args.writer.now c.put_derived.new.writer c.in-Err.error c.ask_with-answer.ensures.adds small

@@ -22,7 +22,7 @@ returns-clause-answers g c =
     let space = inputs.space in
     let basis = Later space inputs.clauses.clauses in
     let setting = setting_of c.args.repo.now Outdated c.args.essential c.args.limit c.args.limits.now basis in
-    c.write_sweep-claims.ensures c.args.repo.now basis c.len-packages.ensures.in_order
+    c.write_sweep-claims.ensures c.args.repo.now basis c.keeps_invariant.ensures.in_order
     (c.in_ok-inputs.ensures.ok Outdated outdated-is-later) c.package_count.ensures
     (subst (λ (view : OutdatedView). KeepsOutdated setting [] view) (sym c.in_ok-claimant.ensures)
     (outdated-starts setting space (length space.repository.packages) (record { kind_is = refl; inputs = inputs.clauses.clauses; later = refl })))

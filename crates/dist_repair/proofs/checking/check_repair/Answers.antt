@@ -13,6 +13,6 @@ returns-in-Ok-clause-some g c = (
 )
 
 pub returns-in-Ok-clause-says : goal.returns-in-Ok-clause-says
-returns-in-Ok-clause-says g c = verdict-says c.accepted_repairs_hold.ensures c.args.space.now c.variables-variables.ensures.space c.args.limits.now
+returns-in-Ok-clause-says g c = verdict-says c.accepted_repairs_hold.ensures c.args.space.now c.keeps_invariant.ensures.space c.args.limits.now
     c.in-Ok.ensures.some.0 c.verdict_of.result (verdict-answers c.args.space.now c.forms_are_clear.ensures c.args.limits.now c.in-Ok.ensures.some.0
     c.in-Ok.answered c.verdict_of.result c.verdict_of.ensures c.in-Ok.ensures.some.1)

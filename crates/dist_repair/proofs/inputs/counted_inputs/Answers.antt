@@ -11,7 +11,7 @@ returns-then-variables-from-clause-err c =
     c.variables.ensures ∙ ap (λ (t : Counter). counted_variables t) c.of.ensures in
     let limit = c.from.ensures in
     let more = c.if-variables-from.true in
-    variables-large c.space_clauses_are_there.ensures c.args.space.now c.variables-variables.ensures.space c.args.most c.args.limits.now
+    variables-large c.space_clauses_are_there.ensures c.args.space.now c.keeps_invariant.ensures.space c.args.most c.args.limits.now
     (omega (arith, all, limit, more))
 
 pub returns-in-Err-clause-err : goal.returns-in-Err-clause-err
@@ -21,6 +21,6 @@ returns-in-Err-clause-err c =
     let limit = c.from.ensures in
     let kept = c.if-variables-from.false in
     subst (IsLarge (PassesWith c.args.space.now c.args.most c.args.limits.now)) (sym c.too_large.ensures)
-    (clauses-large c.space_clauses_are_there.ensures c.space_clauses_go_on.ensures c.args.space.now c.variables-variables.ensures.space c.args.most
+    (clauses-large c.space_clauses_are_there.ensures c.space_clauses_go_on.ensures c.args.space.now c.keeps_invariant.ensures.space c.args.most
     c.args.limits.now (omega (arith, all, limit, kept)) c.clauses_of.result c.in-Err.error c.in-Err.is c.clauses_of.ensures.too_many_clauses
     c.clauses_of.ensures.too_many_literals)

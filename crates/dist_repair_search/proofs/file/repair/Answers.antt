@@ -47,7 +47,7 @@ answer_with-requires-clause-words g c =
     let h = header_with c.args.limit c.args.package c.args.most in
     let limits = c.args.limits.now in
     let is = c.deref.ensures.value ∙ c.in_ok-numbers.ensures.value in
-    λ w are. words-over s h limits c.in_ok-set.set c.in_ok-set.ensures.ok c.requires.package c.requires.most c.variables-variables.ensures.space
+    λ w are. words-over s h limits c.in_ok-set.set c.in_ok-set.ensures.ok c.requires.package c.requires.most c.keeps_invariant.ensures.space
     c.deref.result.now is w are c.in_ok-set.set.variables refl
 
 pub returns-clause-answers : goal.returns-clause-answers
@@ -57,7 +57,7 @@ returns-clause-answers g c =
     let limits = c.args.limits.now in
     let is = c.deref.ensures.value ∙ c.in_ok-numbers.ensures.value in
     search-answers s h limits c.in_ok-set.set c.in_ok-set.ensures.ok c.requires.package c.requires.most c.requires.from_one c.requires.upto
-    c.deref.result.now is (subst (All IsSmall) (sym c.deref.ensures.value) c.in_ok-numbers.ensures.small) c.len-count.ensures.within.over_variables
+    c.deref.result.now is (subst (All IsSmall) (sym c.deref.ensures.value) c.in_ok-numbers.ensures.small) c.keeps_invariant-2.ensures.within.over_variables
     c.args.name.now (g.D.Desk.view c.args.desk.now) (g.D.Desk.view c.answer_with.new.desk) c.answer_with.result c.answer_with.ensures
 
 pub returns-clause-first : goal.returns-clause-first
@@ -72,7 +72,7 @@ returns-clause-says g c =
     let is = c.deref.ensures.value ∙ c.in_ok-numbers.ensures.value in
     search-says s h limits c.args.name.now (g.D.Desk.view c.args.desk.now) (g.D.Desk.view c.answer_with.new.desk) c.answer_with.result
     (search-answers s h limits c.in_ok-set.set c.in_ok-set.ensures.ok c.requires.package c.requires.most c.requires.from_one c.requires.upto
-    c.deref.result.now is (subst (All IsSmall) (sym c.deref.ensures.value) c.in_ok-numbers.ensures.small) c.len-count.ensures.within.over_variables
+    c.deref.result.now is (subst (All IsSmall) (sym c.deref.ensures.value) c.in_ok-numbers.ensures.small) c.keeps_invariant-2.ensures.within.over_variables
     c.args.name.now (g.D.Desk.view c.args.desk.now) (g.D.Desk.view c.answer_with.new.desk) c.answer_with.result c.answer_with.ensures)
     (λ text numbers repair header answered.
-    c.accepted_repairs_hold.ensures s limits text numbers h repair c.variables-variables.ensures.space header answered)
+    c.accepted_repairs_hold.ensures s limits text numbers h repair c.keeps_invariant.ensures.space header answered)

@@ -18,12 +18,12 @@ returns-in_err-_answer-clause-err g c =
     let new : DeskView = g.D.Desk.view c.ask_and_note.new.desk in
     by-exit (λ (r : Result (Unit {0}) WorkError). IfErr r (AloneStops s words c.args.notes.now old new c.args.inquirer.now)) c.from_residual.result
     c.in_err-_answer.field-0.0 c.from_residual.ensures.1
-    (alone-stops s c.variables-variables.ensures.space words c.alone-question.result old new c.args.inquirer.now c.args.notes.now
+    (alone-stops s c.keeps_invariant.ensures.space words c.alone-question.result old new c.args.inquirer.now c.args.notes.now
     (λ asked are. c.alone-question.ensures.asks s asked are) c.in_err-_answer.field-0.0 c.in_err-_answer.ensures.err)
 
 pub returns-clause-ok : goal.returns-clause-ok
 returns-clause-ok g c =
     let s = c.args.repairing.now.space.now in
-    alone-more s c.variables-variables.ensures.space c.args.words.now c.alone-question.result (g.D.Desk.view c.args.desk.now)
+    alone-more s c.keeps_invariant.ensures.space c.args.words.now c.alone-question.result (g.D.Desk.view c.args.desk.now)
     (g.D.Desk.view c.ask_and_note.new.desk) c.args.inquirer.now c.args.notes.now (λ asked are. c.alone-question.ensures.asks s asked are)
     c.ask_and_note.new.inquirer c.ask_and_note.new.notes c.in_ok-_answer._answer c.in_ok-_answer.ensures.ok

@@ -19,16 +19,16 @@ returns-in_err-_answer-clause-err g c =
     let new : DeskView = g.D.Desk.view c.ask_and_note.new.desk in
     by-exit (λ (r : Result (Unit {0}) WorkError). IfErr r (NextStops s words c.args.number c.args.notes.now old new c.args.inquirer.now)) c.from_residual.result
     c.in_err-_answer.field-0.0 c.from_residual.ensures.1
-    (next-stops s c.variables-variables.ensures.space words c.at-question.result old new c.args.inquirer.now c.args.notes.now c.args.number
+    (next-stops s c.keeps_invariant.ensures.space words c.at-question.result old new c.args.inquirer.now c.args.notes.now c.args.number
     c.requires.number (λ asked are. c.at-question.ensures.asks s asked are) c.in_err-_answer.field-0.0 c.in_err-_answer.ensures.err)
 
 pub returns-clause-ok : goal.returns-clause-ok
 returns-clause-ok g c =
     let s = c.args.repairing.now.space.now in
-    next-more s c.variables-variables.ensures.space c.args.words.now c.at-question.result (g.D.Desk.view c.args.desk.now)
+    next-more s c.keeps_invariant.ensures.space c.args.words.now c.at-question.result (g.D.Desk.view c.args.desk.now)
     (g.D.Desk.view c.ask_and_note.new.desk) c.args.inquirer.now c.args.notes.now c.args.number c.requires.number
     (λ asked are. c.at-question.ensures.asks s asked are)
-    (λ clauses are. c.questions_decide.ensures.next s clauses c.variables-variables.ensures.space are)
+    (λ clauses are. c.questions_decide.ensures.next s clauses c.keeps_invariant.ensures.space are)
     c.ask_and_note.new.inquirer c.ask_and_note.new.notes c.in_ok-_answer._answer c.in_ok-_answer.ensures.ok
 
 pub returns-in_err-_answer-clause-lower_err : goal.returns-in_err-_answer-clause-lower_err
@@ -40,14 +40,14 @@ returns-in_err-_answer-clause-lower_err g c =
     by-exit (λ (r : Result (Unit {0}) WorkError). IfErr r (LowerStops s words c.args.number c.args.notes.now old new c.args.inquirer.now))
     c.from_residual.result
     c.in_err-_answer.field-0.0 c.from_residual.ensures.1
-    (lower-stops s c.variables-variables.ensures.space words c.at-question.result old new c.args.inquirer.now c.args.notes.now c.args.number
+    (lower-stops s c.keeps_invariant.ensures.space words c.at-question.result old new c.args.inquirer.now c.args.notes.now c.args.number
     c.requires.number (λ asked are. c.at-question.ensures.asks s asked are) c.in_err-_answer.field-0.0 c.in_err-_answer.ensures.err)
 
 pub returns-clause-lower : goal.returns-clause-lower
 returns-clause-lower g c =
     let s = c.args.repairing.now.space.now in
-    lower-more s c.variables-variables.ensures.space c.args.words.now c.at-question.result (g.D.Desk.view c.args.desk.now)
+    lower-more s c.keeps_invariant.ensures.space c.args.words.now c.at-question.result (g.D.Desk.view c.args.desk.now)
     (g.D.Desk.view c.ask_and_note.new.desk) c.args.inquirer.now c.args.notes.now c.args.number c.requires.number
     (λ asked are. c.at-question.ensures.asks s asked are)
-    (λ clauses are. c.questions_decide.ensures.lower s clauses c.variables-variables.ensures.space are)
+    (λ clauses are. c.questions_decide.ensures.lower s clauses c.keeps_invariant.ensures.space are)
     c.ask_and_note.new.inquirer c.ask_and_note.new.notes c.in_ok-_answer._answer c.in_ok-_answer.ensures.ok

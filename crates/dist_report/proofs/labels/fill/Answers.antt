@@ -1,4 +1,4 @@
-use Rattle.std.proofs.Common.{ℕ, List, [], ◌∷◌, ◌++◌, map, take, arith, sym, ap, ◌∙◌}
+use Rattle.std.proofs.Common.{ℕ, List, [], ◌∷◌, ◌++◌, map, arith, ap, ◌∙◌}
 use Rattle.dist_repo.specs.declared.package.Package.{Package}
 use Rattle.dist_report.specs.PackageText.{label}
 use Rattle.dist_report.proofs.LineLemmas.{labels-more}

@@ -20,7 +20,7 @@ pub returns-in_err-put-clause-err : goal.returns-in_err-put-clause-err
 returns-in_err-put-clause-err g c =
     let old : DeskView = g.D.Desk.view c.args.desk.now in
     let new : DeskView = g.D.Desk.view c.put.new.desk in
-    let fits : c.args.asker.now.log.variables < 2 ^ 32 = omega (arith, c.variables-stated.ensures.value, c.variables-stated.ensures.stated) in
+    let fits : c.args.asker.now.log.variables < 2 ^ 32 = omega (arith, c.keeps_invariant.ensures) in
     by-exit (λ (r : Result Claim WorkError). IfErr r (SettleStops old new c.args.asker.now c.args.window.now c.args.group.now))
     c.from_residual-in_err-put.result c.in_err-put.field-0.0 c.from_residual-in_err-put.ensures.1
     (strong-stops old new c.args.asker.now c.args.window.now c.args.group.now c.in_ok-step.step c.in_err-put.field-0.0 fits c.requires.fits c.requires.done
@@ -30,7 +30,7 @@ pub returns-clause-ok : goal.returns-clause-ok
 returns-clause-ok g c =
     let old : DeskView = g.D.Desk.view c.args.desk.now in
     let new : DeskView = g.D.Desk.view c.put.new.desk in
-    let fits : c.args.asker.now.log.variables < 2 ^ 32 = omega (arith, c.variables-stated.ensures.value, c.variables-stated.ensures.stated) in
+    let fits : c.args.asker.now.log.variables < 2 ^ 32 = omega (arith, c.keeps_invariant.ensures) in
     strong-more old new c.args.asker.now c.put.new.self c.args.window.now c.args.group.now c.in_ok-step.step c.in_ok-step.claim fits c.requires.fits
     c.requires.done c.in_ok-step.ensures.line c.in_ok-step.ensures.small
     c.in_ok-step.ensures.claim c.put.ensures.rest c.in_ok-put.ensures.grew c.in_ok-put.ensures.ok

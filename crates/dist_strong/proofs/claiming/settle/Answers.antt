@@ -114,7 +114,7 @@ returns-in_err-put-in-Refuted-clause-err g c =
     let old : DeskView = g.D.Desk.view c.args.desk.now in
     let mid : DeskView = g.D.Desk.view c.ask.new.desk in
     let new : DeskView = g.D.Desk.view c.put.new.desk in
-    let fits : c.args.asker.now.log.variables < 2 ^ 32 = omega (arith, c.variables-stated.ensures.value, c.variables-stated.ensures.stated) in
+    let fits : c.args.asker.now.log.variables < 2 ^ 32 = omega (arith, c.keeps_invariant.ensures) in
     by-exit (λ (r : Result Claim WorkError). IfErr r (StrongStops c.args.package old new c.args.asker.now c.args.window.now))
     c.from_residual-in_err-put-in-Refuted.result c.in_err-put-in-Refuted.field-0.0 c.from_residual-in_err-put-in-Refuted.ensures.1
     (uninstallable-stops c.file_grows.ensures.twice old mid new c.args.asker.now c.ask.new.asker c.args.window.now c.args.package
@@ -132,7 +132,7 @@ returns-in-Refuted-clause-ok g c =
     let old : DeskView = g.D.Desk.view c.args.desk.now in
     let mid : DeskView = g.D.Desk.view c.ask.new.desk in
     let new : DeskView = g.D.Desk.view c.put.new.desk in
-    let fits : c.args.asker.now.log.variables < 2 ^ 32 = omega (arith, c.variables-stated.ensures.value, c.variables-stated.ensures.stated) in
+    let fits : c.args.asker.now.log.variables < 2 ^ 32 = omega (arith, c.keeps_invariant.ensures) in
     claimed-uninstallable c.file_grows.ensures.twice old mid new c.args.asker.now c.ask.new.asker c.put.new.self c.args.window.now c.args.package
     c.deref.result.now c.in_ok-values.field-0 fits (c.deref.ensures.value ∙ c.in_ok-question.ensures) c.in-Refuted.is
     c.in_ok-values.ensures.ok c.requires.suits c.put.ensures.rest c.in_ok-put-in-Refuted.ensures.grew c.in_ok-put-in-Refuted.ensures.ok
@@ -148,7 +148,7 @@ returns-in_err-put-in-Undecided-clause-err g c =
     let old : DeskView = g.D.Desk.view c.args.desk.now in
     let mid : DeskView = g.D.Desk.view c.ask.new.desk in
     let new : DeskView = g.D.Desk.view c.put-in-Undecided.new.desk in
-    let fits : c.args.asker.now.log.variables < 2 ^ 32 = omega (arith, c.variables-stated.ensures.value, c.variables-stated.ensures.stated) in
+    let fits : c.args.asker.now.log.variables < 2 ^ 32 = omega (arith, c.keeps_invariant.ensures) in
     by-exit (λ (r : Result Claim WorkError). IfErr r (StrongStops c.args.package old new c.args.asker.now c.args.window.now))
     c.from_residual-in_err-put-in-Undecided.result c.in_err-put-in-Undecided.field-0.0 c.from_residual-in_err-put-in-Undecided.ensures.1
     (unknown-stops c.file_grows.ensures.twice old mid new c.args.asker.now c.ask.new.asker c.args.window.now c.args.package
@@ -166,7 +166,7 @@ returns-clause-ok g c =
     let old : DeskView = g.D.Desk.view c.args.desk.now in
     let mid : DeskView = g.D.Desk.view c.ask.new.desk in
     let new : DeskView = g.D.Desk.view c.put-in-Undecided.new.desk in
-    let fits : c.args.asker.now.log.variables < 2 ^ 32 = omega (arith, c.variables-stated.ensures.value, c.variables-stated.ensures.stated) in
+    let fits : c.args.asker.now.log.variables < 2 ^ 32 = omega (arith, c.keeps_invariant.ensures) in
     claimed-unknown c.file_grows.ensures.twice old mid new c.args.asker.now c.ask.new.asker c.put-in-Undecided.new.self c.args.window.now c.args.package
     c.deref.result.now c.in_ok-values.field-0 fits (c.deref.ensures.value ∙ c.in_ok-question.ensures) c.in-Undecided.is
     c.in_ok-values.ensures.ok c.requires.suits c.put-in-Undecided.ensures.rest c.in_ok-put-in-Undecided.ensures.grew c.in_ok-put-in-Undecided.ensures.ok

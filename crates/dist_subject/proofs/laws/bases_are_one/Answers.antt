@@ -1,4 +1,4 @@
-use Rattle.dist_subject.proofs.Bases.{BasisLaws, one-basis, some-there, today-there}
+use Rattle.dist_subject.proofs.Bases.{one-basis, some-there, today-there}
 use Rattle.dist_subject.proofs.laws.bases_are_one.Goals as goal
 
 pub returns-clause-today : goal.returns-clause-today

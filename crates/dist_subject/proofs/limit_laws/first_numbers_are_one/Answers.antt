@@ -1,4 +1,4 @@
-use Rattle.dist_subject.proofs.Numbers.{LimitLaws, kept, one}
+use Rattle.dist_subject.proofs.Numbers.{kept, one}
 use Rattle.dist_subject.proofs.limit_laws.first_numbers_are_one.Goals as goal
 
 pub returns-clause-kept : goal.returns-clause-kept

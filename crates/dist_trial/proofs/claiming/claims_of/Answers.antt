@@ -82,7 +82,7 @@ pub unreachable-requires-in-Err-TooLarge : goal.unreachable-requires-in-Err-TooL
 unreachable-requires-in-Err-TooLarge c =
     let new : DeskView = desk_view c.write.new.desk in
     not-large c.texts_have_one_answer.ensures c.args.repo.now c.args.kind c.args.limits.now (codes "certificate") c.in_ok-desk.desk.files
-    (desk_view c.in_ok-desk.desk) new c.in-Ok.field-0 c.in-Err-TooLarge.field-0-0 c.len.ensures.in_order (refl, c.in-Ok.ensures.answers)
+    (desk_view c.in_ok-desk.desk) new c.in-Ok.field-0 c.in-Err-TooLarge.field-0-0 c.keeps_invariant.ensures.in_order (refl, c.in-Ok.ensures.answers)
     (subst (λ (e : WorkError). OfText (file_bytes new.files (codes "certificate")) (λ text. Answers c.args.repo.now c.args.limits.now text (Err e)))
     c.in-Err-TooLarge.field-0-is c.in-Err-TooLarge.ensures.text)
 
@@ -90,7 +90,7 @@ pub unreachable-unreachable-in-Err-TooLarge : goal.unreachable-unreachable-in-Er
 unreachable-unreachable-in-Err-TooLarge c =
     let new : DeskView = desk_view c.write.new.desk in
     not-large c.texts_have_one_answer.ensures c.args.repo.now c.args.kind c.args.limits.now (codes "certificate") c.in_ok-desk.desk.files
-    (desk_view c.in_ok-desk.desk) new c.in-Ok.field-0 c.in-Err-TooLarge.field-0-0 c.len.ensures.in_order (refl, c.in-Ok.ensures.answers)
+    (desk_view c.in_ok-desk.desk) new c.in-Ok.field-0 c.in-Err-TooLarge.field-0-0 c.keeps_invariant.ensures.in_order (refl, c.in-Ok.ensures.answers)
     (subst (λ (e : WorkError). OfText (file_bytes new.files (codes "certificate")) (λ text. Answers c.args.repo.now c.args.limits.now text (Err e)))
     c.in-Err-TooLarge.field-0-is c.in-Err-TooLarge.ensures.text)
 

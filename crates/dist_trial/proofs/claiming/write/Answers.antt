@@ -1,4 +1,4 @@
-use Rattle.std.proofs.Common.{List, Result, codes, false, subst, sym}
+use Rattle.std.proofs.Common.{codes, false, subst, sym}
 use Rattle.dist_base.specs.declared.TheConstants.{DEFAULT_LIMIT}
 use Rattle.dist_cert.specs.declared.records.CertKind.{CertKind}
 use Rattle.dist_outside.specs.Memory.{desk_view}

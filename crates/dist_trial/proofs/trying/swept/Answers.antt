@@ -1,4 +1,4 @@
-use Rattle.std.proofs.Common.{false, List, Ok, Result}
+use Rattle.std.proofs.Common.{false, Ok, Result}
 use Rattle.dist_cert.specs.declared.records.CertKind.TheVariants.{Strong, Outdated, Challenged}
 use Rattle.dist_outside.specs.declared.trouble.WorkError.{WorkError}
 use Rattle.dist_outside.specs.declared.trouble.WorkError.TheVariants.{NoMemory}

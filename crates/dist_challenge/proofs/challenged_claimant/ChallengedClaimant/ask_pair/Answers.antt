@@ -21,7 +21,7 @@ pub ask_both-requires-clause-question : goal.ask_both-requires-clause-question
 ask_both-requires-clause-question g c =
     let words = ap (λ (v : ℕ). together v c.args.at) c.present.ensures in
     subst (λ (ws : List Word). IsOver c.args.asker.now.log.variables ws) (sym words)
-    (pair-over c.args.asker.now c.args.window.now c.args.self.now.covering c.args.group.now c.args.at c.space-space.ensures.is_space c.requires.fits)
+    (pair-over c.args.asker.now c.args.window.now c.args.self.now.covering c.args.group.now c.args.at c.keeps_invariant.ensures.space c.requires.fits)
 
 pub returns-in_err-values-clause-err : goal.returns-in_err-values-clause-err
 returns-in_err-values-clause-err g c =
@@ -36,7 +36,7 @@ returns-in_err-values-clause-err g c =
     c.from_residual.result c.in_err-values.field-0.0 c.from_residual.ensures.1
     (ask-stops (Settled a w self (with_left group c.args.at)) old new a (together group.present c.args.at) (together c.present.result c.args.at)
     c.in_err-values.field-0.0
-    (pair-ready c.pairs_are_of_the_space.ensures.pairs a w self group c.args.at c.space-space.ensures.is_space c.requires.fits) words
+    (pair-ready c.pairs_are_of_the_space.ensures.pairs a w self group c.args.at c.keeps_invariant.ensures.space c.requires.fits) words
     c.in_err-values.ensures.err)
 
 pub add-requires-clause-values : goal.add-requires-clause-values
@@ -68,7 +68,7 @@ returns-in_err-add-in-Found-clause-err g c =
     (ask-told (Settled a w self (with_left group c.args.at)) old new a c.ask_both.new.asker (together group.present c.args.at) (together c.present.result
     c.args.at)
     c.in_ok-values.field-0 (replies.Found c.in-Found.values) (pair-ready c.pairs_are_of_the_space.ensures.pairs a w self group c.args.at
-    c.space-space.ensures.is_space c.requires.fits)
+    c.keeps_invariant.ensures.space c.requires.fits)
     words c.in-Found.is c.in_ok-values.ensures.ok))
 
 pub returns-in_err-strike_latest-in-Found-clause-err : goal.returns-in_err-strike_latest-in-Found-clause-err
@@ -88,7 +88,7 @@ returns-in_err-strike_latest-in-Found-clause-err g c =
     (ask-told (Settled a w self (with_left group c.args.at)) old new a c.ask_both.new.asker (together group.present c.args.at) (together c.present.result
     c.args.at)
     c.in_ok-values.field-0 (replies.Found c.in-Found.values) (pair-ready c.pairs_are_of_the_space.ensures.pairs a w self group c.args.at
-    c.space-space.ensures.is_space c.requires.fits)
+    c.keeps_invariant.ensures.space c.requires.fits)
     words c.in-Found.is c.in_ok-values.ensures.ok))
 
 pub returns-in_err-note_refuted-in-Refuted-clause-err : goal.returns-in_err-note_refuted-in-Refuted-clause-err
@@ -106,7 +106,7 @@ returns-in_err-note_refuted-in-Refuted-clause-err g c =
     c.file_grows.ensures.begin c.file_grows.ensures.twice
     (ask-told (Settled a w self (with_left group c.args.at)) old new a c.ask_both.new.asker (together group.present c.args.at) (together c.present.result
     c.args.at)
-    c.in_ok-values.field-0 replies.Refuted (pair-ready c.pairs_are_of_the_space.ensures.pairs a w self group c.args.at c.space-space.ensures.is_space
+    c.in_ok-values.field-0 replies.Refuted (pair-ready c.pairs_are_of_the_space.ensures.pairs a w self group c.args.at c.keeps_invariant.ensures.space
     c.requires.fits)
     words c.in-Refuted.is c.in_ok-values.ensures.ok))
 
@@ -125,7 +125,7 @@ returns-in_err-note_undecided-in-Undecided-clause-err g c =
     c.file_grows.ensures.begin c.file_grows.ensures.twice
     (ask-told (Settled a w self (with_left group c.args.at)) old new a c.ask_both.new.asker (together group.present c.args.at) (together c.present.result
     c.args.at)
-    c.in_ok-values.field-0 replies.Undecided (pair-ready c.pairs_are_of_the_space.ensures.pairs a w self group c.args.at c.space-space.ensures.is_space
+    c.in_ok-values.field-0 replies.Undecided (pair-ready c.pairs_are_of_the_space.ensures.pairs a w self group c.args.at c.keeps_invariant.ensures.space
     c.requires.fits)
     words c.in-Undecided.is c.in_ok-values.ensures.ok))
 
@@ -153,11 +153,11 @@ returns-in_ok-strike_latest-in-Found-clause-ok g c =
     c.in-Found.is c.in_ok-values.ensures.holds in
     settled-found c.pairs_are_of_the_space.ensures.covered c.pairs_are_of_the_space.ensures.pairs old new a c.ask_both.new.asker w c.add.new.window self
     c.add.new.self
-    group c.strike_latest.new.group c.args.at c.in-Found.values c.space-space.ensures.is_space c.requires.fits
+    group c.strike_latest.new.group c.args.at c.in-Found.values c.keeps_invariant.ensures.space c.requires.fits
     (ask-told (Settled a w self (with_left group c.args.at)) old new a c.ask_both.new.asker (together group.present c.args.at) (together c.present.result
     c.args.at)
     c.in_ok-values.field-0 (replies.Found c.in-Found.values) (pair-ready c.pairs_are_of_the_space.ensures.pairs a w self group c.args.at
-    c.space-space.ensures.is_space c.requires.fits)
+    c.keeps_invariant.ensures.space c.requires.fits)
     words c.in-Found.is c.in_ok-values.ensures.ok)
     holds c.in_ok-add-in-Found.ensures.added c.in_ok-strike_latest-in-Found.ensures
 
@@ -184,10 +184,10 @@ returns-in_ok-note_refuted-in-Refuted-clause-ok g c =
     subst (λ (x : GroupView). SettleMore old new a c.ask_both.new.asker w w self self (with_left group c.args.at) x) (sym
     c.in_ok-note_refuted-in-Refuted.ensures)
     (settled-refuted old new a c.ask_both.new.asker w self group c.args.at
-    (later-present a w self (with_left group c.args.at) c.space-space.ensures.is_space c.requires.fits.begun)
+    (later-present a w self (with_left group c.args.at) c.keeps_invariant.ensures.space c.requires.fits.begun)
     (ask-told (Settled a w self (with_left group c.args.at)) old new a c.ask_both.new.asker (together group.present c.args.at) (together c.present.result
     c.args.at)
-    c.in_ok-values.field-0 replies.Refuted (pair-ready c.pairs_are_of_the_space.ensures.pairs a w self group c.args.at c.space-space.ensures.is_space
+    c.in_ok-values.field-0 replies.Refuted (pair-ready c.pairs_are_of_the_space.ensures.pairs a w self group c.args.at c.keeps_invariant.ensures.space
     c.requires.fits)
     words c.in-Refuted.is c.in_ok-values.ensures.ok))
 
@@ -210,10 +210,10 @@ returns-in_ok-note_undecided-in-Undecided-clause-ok g c =
     subst (λ (x : GroupView). SettleMore old new a c.ask_both.new.asker w w self self (with_left group c.args.at) x) (sym
     c.in_ok-note_undecided-in-Undecided.ensures)
     (settled-undecided old new a c.ask_both.new.asker w self group c.args.at
-    (later-present a w self (with_left group c.args.at) c.space-space.ensures.is_space c.requires.fits.begun)
+    (later-present a w self (with_left group c.args.at) c.keeps_invariant.ensures.space c.requires.fits.begun)
     (ask-told (Settled a w self (with_left group c.args.at)) old new a c.ask_both.new.asker (together group.present c.args.at) (together c.present.result
     c.args.at)
-    c.in_ok-values.field-0 replies.Undecided (pair-ready c.pairs_are_of_the_space.ensures.pairs a w self group c.args.at c.space-space.ensures.is_space
+    c.in_ok-values.field-0 replies.Undecided (pair-ready c.pairs_are_of_the_space.ensures.pairs a w self group c.args.at c.keeps_invariant.ensures.space
     c.requires.fits)
     words c.in-Undecided.is c.in_ok-values.ensures.ok))
 

@@ -45,8 +45,8 @@ ask_pairs-requires-clause-fits g c =
     let present : ℕ = c.args.group.now.present in
     let low = c.requires.today.kept.low in
     let high = c.requires.today.kept.high in
-    let within = c.len-kept.ensures.within in
-    first-fits c.pairs_are_of_the_space.ensures.covered a w self p present c.args.group.now c.args.today c.space-space.ensures.is_space c.requires.suits
+    let within = c.keeps_invariant-2.ensures.within in
+    first-fits c.pairs_are_of_the_space.ensures.covered a w self p present c.args.group.now c.args.today c.keeps_invariant.ensures.space c.requires.suits
     c.requires.fits
     c.requires.present c.requires.today c.requires.first (omega (arith, low, high, within)) (omega (arith, low, within))
 
@@ -61,14 +61,14 @@ returns-in_err-ask_pairs-clause-err g c =
     let mid : DeskView = g.D.Desk.view c.ask_pairs.new.desk in
     by-exit (λ (r : Result Claim WorkError). IfErr r (ClaimStops KeepsChallenged p old mid a w self)) c.from_residual.result c.in_err-ask_pairs.field-0.0
     c.from_residual.ensures.1
-    (asked-stops c.pairs_are_of_the_space.ensures.covered a w self p present c.args.group.now c.args.today c.space-space.ensures.is_space c.requires.suits
+    (asked-stops c.pairs_are_of_the_space.ensures.covered a w self p present c.args.group.now c.args.today c.keeps_invariant.ensures.space c.requires.suits
     c.requires.fits
     c.requires.present c.requires.today c.requires.first old mid c.in_err-ask_pairs.field-0.0 c.in_err-ask_pairs.ensures.err)
 
 pub take_up_behind-requires-clause-upto : goal.take_up_behind-requires-clause-upto
 take_up_behind-requires-clause-upto g c =
     present-upto c.ask_pairs.new.asker c.ask_pairs.new.window c.ask_pairs.new.self.covering c.ask_pairs.new.group
-    (subst IsSpace (sym c.ask_pairs.ensures.space) c.space-space.ensures.is_space) c.in_ok-ask_pairs.ensures.fits.begun
+    (subst IsSpace (sym c.ask_pairs.ensures.space) c.keeps_invariant.ensures.space) c.in_ok-ask_pairs.ensures.fits.begun
 
 pub returns-in_err-taken-clause-err : goal.returns-in_err-taken-clause-err
 returns-in_err-taken-clause-err g c =
@@ -83,11 +83,11 @@ returns-in_err-taken-clause-err g c =
     let v : WindowView = c.ask_pairs.new.window in
     let d : CoveringView = c.ask_pairs.new.self.covering in
     let two : GroupView = c.ask_pairs.new.group in
-    let space : IsSpace d.space = subst IsSpace (sym c.ask_pairs.ensures.space) c.space-space.ensures.is_space in
+    let space : IsSpace d.space = subst IsSpace (sym c.ask_pairs.ensures.space) c.keeps_invariant.ensures.space in
     let fits = c.in_ok-ask_pairs.ensures.fits.begun in
     by-exit (λ (r : Result Claim WorkError). IfErr r (ClaimStops KeepsChallenged p old mid a w self)) c.from_residual-in_err-taken.result NoMemory
     c.from_residual-in_err-taken.ensures.1
-    (first-stops c.pairs_are_of_the_space.ensures.covered a w self p present c.args.group.now c.args.today c.space-space.ensures.is_space c.requires.suits
+    (first-stops c.pairs_are_of_the_space.ensures.covered a w self p present c.args.group.now c.args.today c.keeps_invariant.ensures.space c.requires.suits
     c.requires.fits
     c.requires.present c.requires.today c.requires.first old mid mid b v d two NoMemory c.file_grows.ensures.twice c.in_ok-ask_pairs.ensures.ok
     (memory-stops (Begun b v d two w.count) mid b c.file_grows.ensures.begin (begun-stand b v d two w.count)))
@@ -105,7 +105,7 @@ claim_group-requires-clause-fits g c =
     let v : WindowView = c.ask_pairs.new.window in
     let d : CoveringView = c.ask_pairs.new.self.covering in
     let two : GroupView = c.ask_pairs.new.group in
-    let space : IsSpace d.space = subst IsSpace (sym c.ask_pairs.ensures.space) c.space-space.ensures.is_space in
+    let space : IsSpace d.space = subst IsSpace (sym c.ask_pairs.ensures.space) c.keeps_invariant.ensures.space in
     let fits = c.in_ok-ask_pairs.ensures.fits.begun in
     let now = c.in_ok-taken.ensures.today c.if-taken.true in
     let earlier = subst (λ (n : ℕ). n < v.count) c.count-earlier.ensures (c.in_ok-taken.ensures.found c.if-taken.true) in
@@ -113,7 +113,7 @@ claim_group-requires-clause-fits g c =
     let kept : IsKept v v.count = latest-of-next w v earlier (c.in_ok-ask_pairs.ensures.latest refl) in
     let taken : IsTakenUp d v two c.take_up_behind.new.group c.args.today v.count = c.in_ok-taken.ensures.taken c.if-taken.true in
     taken-fits c.pairs_are_of_the_space.ensures.covered b v d two c.take_up_behind.new.group w.count c.args.today v.count space fits now kept starts taken
-    (omega (arith, earlier)) (let low = c.requires.today.kept.low in let within = c.len-kept.ensures.within in omega
+    (omega (arith, earlier)) (let low = c.requires.today.kept.low in let within = c.keeps_invariant-2.ensures.within in omega
     (arith, low, within))
 
 pub returns-then-taken-clause-ok : goal.returns-then-taken-clause-ok
@@ -129,7 +129,7 @@ returns-then-taken-clause-ok g c =
     let v : WindowView = c.ask_pairs.new.window in
     let d : CoveringView = c.ask_pairs.new.self.covering in
     let two : GroupView = c.ask_pairs.new.group in
-    let space : IsSpace d.space = subst IsSpace (sym c.ask_pairs.ensures.space) c.space-space.ensures.is_space in
+    let space : IsSpace d.space = subst IsSpace (sym c.ask_pairs.ensures.space) c.keeps_invariant.ensures.space in
     let fits = c.in_ok-ask_pairs.ensures.fits.begun in
     let now = c.in_ok-taken.ensures.today c.if-taken.true in
     let earlier = subst (λ (n : ℕ). n < v.count) c.count-earlier.ensures (c.in_ok-taken.ensures.found c.if-taken.true) in
@@ -140,7 +140,7 @@ returns-then-taken-clause-ok g c =
     IfOk-weaker c.claim_group.result
     (ChallengeMore mid new b c.claim_group.new.asker v c.claim_group.new.window d c.claim_group.new.self.covering c.take_up_behind.new.group)
     (ClaimMore KeepsChallenged p old new a c.claim_group.new.asker w c.claim_group.new.window self c.claim_group.new.self.covering)
-    (λ claim more. first-claimed c.pairs_are_of_the_space.ensures.covered a w self p present c.args.group.now c.args.today c.space-space.ensures.is_space
+    (λ claim more. first-claimed c.pairs_are_of_the_space.ensures.covered a w self p present c.args.group.now c.args.today c.keeps_invariant.ensures.space
     c.requires.suits c.requires.fits
     c.requires.present c.requires.today c.requires.first old mid new b c.claim_group.new.asker v c.claim_group.new.window d c.claim_group.new.self.covering two
     claim
@@ -161,7 +161,7 @@ returns-then-taken-clause-err g c =
     let v : WindowView = c.ask_pairs.new.window in
     let d : CoveringView = c.ask_pairs.new.self.covering in
     let two : GroupView = c.ask_pairs.new.group in
-    let space : IsSpace d.space = subst IsSpace (sym c.ask_pairs.ensures.space) c.space-space.ensures.is_space in
+    let space : IsSpace d.space = subst IsSpace (sym c.ask_pairs.ensures.space) c.keeps_invariant.ensures.space in
     let fits = c.in_ok-ask_pairs.ensures.fits.begun in
     let now = c.in_ok-taken.ensures.today c.if-taken.true in
     let earlier = subst (λ (n : ℕ). n < v.count) c.count-earlier.ensures (c.in_ok-taken.ensures.found c.if-taken.true) in
@@ -170,7 +170,7 @@ returns-then-taken-clause-err g c =
     let taken : IsTakenUp d v two c.take_up_behind.new.group c.args.today v.count = c.in_ok-taken.ensures.taken c.if-taken.true in
     let new : DeskView = g.D.Desk.view c.claim_group.new.desk in
     IfErr-weaker c.claim_group.result (ChallengeStops mid new b v d c.take_up_behind.new.group) (ClaimStops KeepsChallenged p old new a w self)
-    (λ error stops. first-stops c.pairs_are_of_the_space.ensures.covered a w self p present c.args.group.now c.args.today c.space-space.ensures.is_space
+    (λ error stops. first-stops c.pairs_are_of_the_space.ensures.covered a w self p present c.args.group.now c.args.today c.keeps_invariant.ensures.space
     c.requires.suits c.requires.fits
     c.requires.present c.requires.today c.requires.first old mid new b v d two error c.file_grows.ensures.twice c.in_ok-ask_pairs.ensures.ok
     (taken-stops c.pairs_are_of_the_space.ensures.covered b v d two c.take_up_behind.new.group w.count c.args.today v.count space fits now kept starts taken
@@ -194,14 +194,14 @@ returns-clause-ok g c =
     let v : WindowView = c.ask_pairs.new.window in
     let d : CoveringView = c.ask_pairs.new.self.covering in
     let two : GroupView = c.ask_pairs.new.group in
-    let space : IsSpace d.space = subst IsSpace (sym c.ask_pairs.ensures.space) c.space-space.ensures.is_space in
+    let space : IsSpace d.space = subst IsSpace (sym c.ask_pairs.ensures.space) c.keeps_invariant.ensures.space in
     let fits = c.in_ok-ask_pairs.ensures.fits.begun in
     let new : DeskView = g.D.Desk.view c.claim_by_today.new.desk in
     IfOk-weaker c.claim_by_today.result
     (BegunMore mid new b c.claim_by_today.new.asker v c.claim_by_today.new.window d c.claim_by_today.new.self.covering c.take_up_behind.new.group
     c.count-earlier.result)
     (ClaimMore KeepsChallenged p old new a c.claim_by_today.new.asker w c.claim_by_today.new.window self c.claim_by_today.new.self.covering)
-    (λ claim more. first-claimed c.pairs_are_of_the_space.ensures.covered a w self p present c.args.group.now c.args.today c.space-space.ensures.is_space
+    (λ claim more. first-claimed c.pairs_are_of_the_space.ensures.covered a w self p present c.args.group.now c.args.today c.keeps_invariant.ensures.space
     c.requires.suits c.requires.fits
     c.requires.present c.requires.today c.requires.first old mid new b c.claim_by_today.new.asker v c.claim_by_today.new.window d
     c.claim_by_today.new.self.covering two claim
@@ -226,12 +226,12 @@ returns-clause-err g c =
     let v : WindowView = c.ask_pairs.new.window in
     let d : CoveringView = c.ask_pairs.new.self.covering in
     let two : GroupView = c.ask_pairs.new.group in
-    let space : IsSpace d.space = subst IsSpace (sym c.ask_pairs.ensures.space) c.space-space.ensures.is_space in
+    let space : IsSpace d.space = subst IsSpace (sym c.ask_pairs.ensures.space) c.keeps_invariant.ensures.space in
     let fits = c.in_ok-ask_pairs.ensures.fits.begun in
     let new : DeskView = g.D.Desk.view c.claim_by_today.new.desk in
     IfErr-weaker c.claim_by_today.result (BegunStops mid new b v d c.take_up_behind.new.group c.count-earlier.result)
     (ClaimStops KeepsChallenged p old new a w self)
-    (λ error stops. first-stops c.pairs_are_of_the_space.ensures.covered a w self p present c.args.group.now c.args.today c.space-space.ensures.is_space
+    (λ error stops. first-stops c.pairs_are_of_the_space.ensures.covered a w self p present c.args.group.now c.args.today c.keeps_invariant.ensures.space
     c.requires.suits c.requires.fits
     c.requires.present c.requires.today c.requires.first old mid new b v d two error c.file_grows.ensures.twice c.in_ok-ask_pairs.ensures.ok
     (subst (λ (x : GroupView). BegunStops mid new b v d x w.count error) (c.in_ok-taken.ensures.left c.if-taken.false)

@@ -25,7 +25,7 @@ use Rattle.dist_challenge.proofs.challenged_claimant.ChallengedClaimant.claim_by
 pub ask_today-requires-clause-question : goal.ask_today-requires-clause-question
 ask_today-requires-clause-question g c =
     subst (λ (v : ℕ). IsOver c.args.asker.now.log.variables (today-question v)) (sym c.present.ensures)
-    (today-over c.args.asker.now c.args.window.now c.args.self.now.covering c.args.group.now c.space-space.ensures.is_space c.requires.fits)
+    (today-over c.args.asker.now c.args.window.now c.args.self.now.covering c.args.group.now c.keeps_invariant.ensures.space c.requires.fits)
 
 pub returns-in_err-values-clause-err : goal.returns-in_err-values-clause-err
 returns-in_err-values-clause-err g c =
@@ -111,7 +111,7 @@ pub plan_found-requires-clause-upto : goal.plan_found-requires-clause-upto
 plan_found-requires-clause-upto g c =
     subst (λ (s : SpaceView). c.args.group.now.present ≤ length s.meanings)
     (sym (c.in_ok-add-in-Found.ensures.space ∙ ap (λ (v : CoveringView). v.space) c.ask_today.ensures.same))
-    (present-upto c.args.asker.now c.args.window.now c.args.self.now.covering c.args.group.now c.space-space.ensures.is_space c.requires.fits)
+    (present-upto c.args.asker.now c.args.window.now c.args.self.now.covering c.args.group.now c.keeps_invariant.ensures.space c.requires.fits)
 
 pub claim_group-requires-clause-fits : goal.claim_group-requires-clause-fits
 claim_group-requires-clause-fits g c =
@@ -127,7 +127,7 @@ claim_group-requires-clause-fits g c =
     words
     c.in-Found.is c.in_ok-values.ensures.holds in
     found-fits c.pairs_are_of_the_space.ensures.covered a c.ask_today.new.asker w c.add.new.window self c.add.new.self was c.plan_found.new.group n
-    c.in-Found.values c.space-space.ensures.is_space c.requires.fits c.requires.own.1 c.requires.own.0 c.requires.kept holds
+    c.in-Found.values c.keeps_invariant.ensures.space c.requires.fits c.requires.own.1 c.requires.own.0 c.requires.kept holds
     (subst (λ (v : CoveringView). IsAdded v c.add.new.self w c.add.new.window c.in-Found.values) c.ask_today.ensures.same
     c.in_ok-add-in-Found.ensures.added) c.in_ok-plan_found-in-Found.ensures c.ask_today.ensures.limit c.ask_today.ensures.variables
 
@@ -150,7 +150,7 @@ returns-in_ok-plan_found-in-Found-clause-ok g c =
     (BegunMore old new a c.claim_group.new.asker w c.claim_group.new.window self c.claim_group.new.self.covering was n)
     (λ claim more. found-claimed c.pairs_are_of_the_space.ensures.covered a c.ask_today.new.asker w c.add.new.window self c.add.new.self was
     c.plan_found.new.group n
-    c.in-Found.values c.space-space.ensures.is_space c.requires.fits c.requires.own.1 c.requires.own.0 c.requires.kept holds
+    c.in-Found.values c.keeps_invariant.ensures.space c.requires.fits c.requires.own.1 c.requires.own.0 c.requires.kept holds
     (subst (λ (v : CoveringView). IsAdded v c.add.new.self w c.add.new.window c.in-Found.values) c.ask_today.ensures.same
     c.in_ok-add-in-Found.ensures.added) c.in_ok-plan_found-in-Found.ensures old mid new c.claim_group.new.asker c.claim_group.new.window
     c.claim_group.new.self.covering
@@ -178,7 +178,7 @@ returns-in_ok-plan_found-in-Found-clause-err g c =
     (BegunStops old new a w self was n)
     (λ error stops. found-stops c.pairs_are_of_the_space.ensures.covered a c.ask_today.new.asker w c.add.new.window self c.add.new.self was
     c.plan_found.new.group n
-    c.in-Found.values c.space-space.ensures.is_space c.requires.fits c.requires.own.1 c.requires.own.0 c.requires.kept holds
+    c.in-Found.values c.keeps_invariant.ensures.space c.requires.fits c.requires.own.1 c.requires.own.0 c.requires.kept holds
     (subst (λ (v : CoveringView). IsAdded v c.add.new.self w c.add.new.window c.in-Found.values) c.ask_today.ensures.same
     c.in_ok-add-in-Found.ensures.added) c.in_ok-plan_found-in-Found.ensures old mid new error c.file_grows.ensures.twice
     (ask-told (Begun a w self was n) old mid a c.ask_today.new.asker (today-question was.present) (today-question c.present.result)
@@ -209,7 +209,7 @@ returns-in_err-put-in-Refuted-clause-err g c =
     c.in_ok-values.field-0 replies.Refuted (today-ready a w self was n) words c.in-Refuted.is c.in_ok-values.ensures.ok)
     (subst (λ (p : ℕ). PutsBehind (Begun a w self was n) (today-question was.present) old mid c.ask_today.new.asker replies.Refuted w (KeptBy self)
     (NotInstallable p))
-    (sym c.claimed-package.ensures) (uninstallable-puts old mid a c.ask_today.new.asker w self was n c.space-space.ensures.few))
+    (sym c.claimed-package.ensures) (uninstallable-puts old mid a c.ask_today.new.asker w self was n c.keeps_invariant.ensures.packages))
     c.in_err-put-in-Refuted.ensures.err)
 
 pub returns-in_err-put-in-Refuted-clause-grows : goal.returns-in_err-put-in-Refuted-clause-grows
@@ -235,7 +235,7 @@ returns-in_ok-put-in-Refuted-clause-ok g c =
     c.in_ok-values.field-0 replies.Refuted (today-ready a w self was n) words c.in-Refuted.is c.in_ok-values.ensures.ok)
     (subst (λ (p : ℕ). PutsBehind (Begun a w self was n) (today-question was.present) old mid c.ask_today.new.asker replies.Refuted w (KeptBy self)
     (NotInstallable p))
-    (sym c.claimed-package.ensures) (uninstallable-puts old mid a c.ask_today.new.asker w self was n c.space-space.ensures.few))
+    (sym c.claimed-package.ensures) (uninstallable-puts old mid a c.ask_today.new.asker w self was n c.keeps_invariant.ensures.packages))
     (uninstallable-kind c.claimed-package.result) refl c.put.ensures.rest c.in_ok-put-in-Refuted.ensures.grew c.in_ok-put-in-Refuted.ensures.ok s before begun)
 
 pub returns-in_ok-put-in-Refuted-clause-grows : goal.returns-in_ok-put-in-Refuted-clause-grows
@@ -262,7 +262,7 @@ returns-in_err-put-in-Undecided-clause-err g c =
     c.in_ok-values.field-0 replies.Undecided (today-ready a w self was n) words c.in-Undecided.is c.in_ok-values.ensures.ok)
     (subst (λ (p : ℕ). PutsBehind (Begun a w self was n) (today-question was.present) old mid c.ask_today.new.asker replies.Undecided w (KeptBy self) (Unknown
     p))
-    (sym c.claimed-package.ensures) (unknown-puts old mid a c.ask_today.new.asker w self was n c.space-space.ensures.few))
+    (sym c.claimed-package.ensures) (unknown-puts old mid a c.ask_today.new.asker w self was n c.keeps_invariant.ensures.packages))
     c.in_err-put-in-Undecided.ensures.err)
 
 pub returns-in_err-put-in-Undecided-clause-grows : goal.returns-in_err-put-in-Undecided-clause-grows
@@ -288,7 +288,7 @@ returns-in_ok-put-in-Undecided-clause-ok g c =
     c.in_ok-values.field-0 replies.Undecided (today-ready a w self was n) words c.in-Undecided.is c.in_ok-values.ensures.ok)
     (subst (λ (p : ℕ). PutsBehind (Begun a w self was n) (today-question was.present) old mid c.ask_today.new.asker replies.Undecided w (KeptBy self) (Unknown
     p))
-    (sym c.claimed-package.ensures) (unknown-puts old mid a c.ask_today.new.asker w self was n c.space-space.ensures.few))
+    (sym c.claimed-package.ensures) (unknown-puts old mid a c.ask_today.new.asker w self was n c.keeps_invariant.ensures.packages))
     (unknown-kind c.claimed-package.result) refl c.put-in-Undecided.ensures.rest c.in_ok-put-in-Undecided.ensures.grew c.in_ok-put-in-Undecided.ensures.ok s
     before begun)
 

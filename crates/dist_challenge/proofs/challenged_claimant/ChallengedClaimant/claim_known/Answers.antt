@@ -28,7 +28,7 @@ known-starts w today = (inl refl, λ n low high. absurd (omega (arith, low, high
 
 pub known_group-requires-clause-upto : goal.known_group-requires-clause-upto
 known_group-requires-clause-upto g c =
-    present-upto c.args.asker.now c.args.window.now c.args.self.now.covering (group_of c.args.package c.args.present) c.space-space.ensures.is_space
+    present-upto c.args.asker.now c.args.window.now c.args.self.now.covering (group_of c.args.package c.args.present) c.keeps_invariant.ensures.space
     (fresh-fits c.args.asker.now c.args.window.now c.args.self.now.covering c.args.package c.args.present c.requires.suits c.requires.fits c.requires.present)
 
 pub returns-in_err-group-clause-err : goal.returns-in_err-group-clause-err
@@ -63,12 +63,12 @@ claim_group-requires-clause-fits g c =
     let p : ℕ = c.args.package in
     let was : GroupView = group_of p c.args.present in
     let fits = fresh-fits a w self p c.args.present c.requires.suits c.requires.fits c.requires.present in
-    let space = c.space-space.ensures.is_space in
+    let space = c.keeps_invariant.ensures.space in
     let taken : IsTakenUp self w was c.in-Some.group c.args.today c.args.today =
     known-one self w was c.args.today c.in_ok-group.field-0 c.in-Some.group c.in-Some.is c.in_ok-group.ensures in
     let low = c.requires.today.kept.low in
     let high = c.requires.today.kept.high in
-    let within = c.len-kept.ensures.within in
+    let within = c.keeps_invariant-2.ensures.within in
     taken-fits c.pairs_are_of_the_space.ensures.covered a w self was c.in-Some.group w.count c.args.today c.args.today space fits c.requires.today
     c.requires.today.kept (known-starts w c.args.today) taken (omega (arith, low, high, within)) (omega (arith, low, within))
 
@@ -81,7 +81,7 @@ returns-in-Some-clause-ok g c =
     let p : ℕ = c.args.package in
     let was : GroupView = group_of p c.args.present in
     let fits = fresh-fits a w self p c.args.present c.requires.suits c.requires.fits c.requires.present in
-    let space = c.space-space.ensures.is_space in
+    let space = c.keeps_invariant.ensures.space in
     let taken : IsTakenUp self w was c.in-Some.group c.args.today c.args.today =
     known-one self w was c.args.today c.in_ok-group.field-0 c.in-Some.group c.in-Some.is c.in_ok-group.ensures in
     let new : DeskView = g.D.Desk.view c.claim_group.new.desk in
@@ -104,7 +104,7 @@ returns-in-Some-clause-err g c =
     let p : ℕ = c.args.package in
     let was : GroupView = group_of p c.args.present in
     let fits = fresh-fits a w self p c.args.present c.requires.suits c.requires.fits c.requires.present in
-    let space = c.space-space.ensures.is_space in
+    let space = c.keeps_invariant.ensures.space in
     let taken : IsTakenUp self w was c.in-Some.group c.args.today c.args.today =
     known-one self w was c.args.today c.in_ok-group.field-0 c.in-Some.group c.in-Some.is c.in_ok-group.ensures in
     let new : DeskView = g.D.Desk.view c.claim_group.new.desk in

@@ -30,7 +30,7 @@ loop-back-preserved c =
       | then-not-has+in_ok-push w ↦
           rw (w.ats-is, w.in_ok-push.ensures.items)
           (class-pushed self kept own c.args.number c.args.cluster x from c.variable-at.result c.args.ats.now.items c.loop-back.ats.items
-          c.space-space.ensures.is_space next within other c.requires.used is (sym c.has.ensures ∙ w.if-not-has.true)
+          c.keeps_invariant.ensures.space next within other c.requires.used is (sym c.has.ensures ∙ w.if-not-has.true)
           (c.loop-back.invariant own other gathered above))
       | else-not-has w ↦
           rw w.ats-is

@@ -54,4 +54,4 @@ returns-clause-all c =
     c.cluster_of-own.ensures ∙ ap (λ (v : CoveringView). slice_index v.space.cluster_of (c.args.package - 1)) c.self.view_is in
     λ whole. subst (λ (n : ℕ). AreOpen self c.args.window.now n (c.args.number ∷ []) c.loop-back.ats.items) own
     (gathered-open self c.args.window.now c.cluster_of-own.result c.args.number c.args.clusters (c.args.clusters - c.loop-back.back)
-    c.loop-back.ats.items c.space-space.ensures.is_space none whole c.loop-back.invariant)
+    c.loop-back.ats.items c.keeps_invariant.ensures.space none whole c.loop-back.invariant)

@@ -19,7 +19,7 @@ returns-then-lasts-clause-plan c =
     let fewer : length c.in_ok-left.left.items < length c.args.ats.now.items =
     omega (arith, c.if-len.true, c.len.ensures, c.len-2.ensures, c.in_ok-left.left.ok.0, c.args.ats.now.ok.0) in
     let low = c.requires.kept.low in
-    let few = c.len-kept.ensures.within in
+    let few = c.keeps_invariant.ensures.within in
     λ present own today start has other plan.
     subst (λ (ns : List ℕ). IsPlan self kept present own today start (c.args.number - 1) ns c.in_ok-left.left.items) (sym c.in_ok-push.ensures.items)
     (plan-struck self kept present own today start c.args.number c.args.named.now.items c.args.ats.now.items c.in_ok-left.left.items c.requires.kept

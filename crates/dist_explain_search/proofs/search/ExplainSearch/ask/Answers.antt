@@ -1,4 +1,4 @@
-use Rattle.std.proofs.Common.{◌≡◌, ◌∙◌, List, Result, subst, sym}
+use Rattle.std.proofs.Common.{◌∙◌, List, Result, subst, sym}
 use Rattle.std.specs.Prelude.{IfErr, IfOk}
 use Rattle.dist_cert.specs.Form.{Word}
 use Rattle.dist_cert.specs.declared.records.CertRecord.TheVariants.{Question}

@@ -1,8 +1,5 @@
-use Rattle.std.proofs.Common.{◌≡◌, ◌∙◌, ℕ, List, [], ◌∷◌, ◌++◌, Bool, Result, ap, arith, length, subst, sym}
-use Rattle.std.specs.Prelude.{IfErr, IfOk}
-use Rattle.dist_cert.specs.Form.{Word}
+use Rattle.std.proofs.Common.{◌≡◌, ◌∙◌, ℕ, List, [], arith, subst, sym}
 use Rattle.dist_outside.specs.DeskView.{DeskView}
-use Rattle.dist_outside.specs.declared.trouble.WorkError.{WorkError}
 use Rattle.dist_outside.specs.declared.trouble.WorkError.TheVariants.{NoMemory}
 use Rattle.dist_solver.specs.declared.answers.Answer.{Answer}
 use Rattle.dist_solver.specs.declared.answers.Answer.TheVariants as answers
@@ -12,10 +9,9 @@ use Rattle.dist_line_write.specs.ScriptLaws.{two-grow}
 use Rattle.dist_inquiry.specs.AnswerText.{NoteMore}
 use Rattle.dist_explain.specs.NotesPrivate.{NotesView}
 use Rattle.dist_explain.specs.declared.asked.Asked.{Asked}
-use Rattle.dist_explain_search.specs.SearchPrivate.{AreNumbers, FitsAsked, Goes, GoesNot, HasJust, IsSmaller, Marks, explain_noting, others_of, question_of}
+use Rattle.dist_explain_search.specs.SearchPrivate.{AreNumbers, Goes, GoesNot, HasJust, Marks, explain_noting, others_of, question_of}
 use Rattle.dist_explain_search.proofs.CoreLemmas.{less-found, less-next, less-refuted, less-undecided, others-are}
 use Rattle.dist_explain_search.proofs.GoingLemmas.{exit-stops, goes-join, goes-stop, stops-memory, stops-question}
-use Rattle.dist_explain_search.proofs.QuestionLemmas.{others-but}
 use Rattle.dist_explain_search.proofs.search.ExplainSearch.leave_out.Goals as goal
 
 -- what is told of the words that were passed

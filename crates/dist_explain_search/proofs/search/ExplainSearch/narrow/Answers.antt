@@ -6,10 +6,9 @@ use Rattle.dist_outside.specs.DeskView.{DeskView}
 use Rattle.dist_outside.specs.declared.trouble.WorkError.TheVariants.{NoMemory}
 use Rattle.dist_solver.specs.declared.answers.Answer.TheVariants as answers
 use Rattle.dist_inquiry.specs.Asking.{AskStops}
-use Rattle.dist_line_write.specs.Asking.{AskerView, IsOver}
+use Rattle.dist_line_write.specs.Asking.{IsOver}
 use Rattle.dist_inquiry.specs.AnswerText.{NoteMore}
 use Rattle.dist_explain.specs.Answered.{IsOfRelation}
-use Rattle.dist_explain.specs.NotesPrivate.{NotesView}
 use Rattle.dist_explain.specs.declared.asked.Asked.{Asked}
 use Rattle.dist_explain_search.specs.SearchPrivate.{AreNumbers, HasJust, IsSmaller, Marks, explain_noting, question_of}
 use Rattle.dist_explain_search.proofs.CoreLemmas.{marks-just, narrowed-by, next-by, smaller-by, smaller-same}

@@ -1,13 +1,11 @@
-use Rattle.std.proofs.Common.{◌≡◌, ◌⊎◌, ◌∙◌, ℕ, ◌+◌, ◌≤◌, List, [], ◌∷◌, ◌++◌, ap, arith, length, length-append, rules, subst, sym}
+use Rattle.std.proofs.Common.{◌≡◌, ◌⊎◌, ◌∙◌, ℕ, ◌+◌, List, [], ◌∷◌, ◌++◌, ap, arith, length, length-append, rules, subst, sym}
 use Rattle.std.specs.Prelude.{Contains, MatchOption, IfSome}
 use Rattle.dist_outside.specs.DeskView.{DeskView}
 use Rattle.dist_outside.specs.Files.{IsWriting}
 use Rattle.dist_outside.specs.declared.trouble.WorkError.TheVariants.{NoMemory}
-use Rattle.dist_line_write.specs.Asking.{AskerView}
 use Rattle.dist_line_write.specs.ScriptLaws.{two-grow}
-use Rattle.dist_explain.specs.NotesPrivate.{NotesView}
 use Rattle.dist_explain.specs.declared.asked.Asked.{Asked}
-use Rattle.dist_explain_search.specs.SearchPrivate.{AreNumbers, Goes, GoesNot, IsAnsweredAt, IsSmaller, Marks, others_of}
+use Rattle.dist_explain_search.specs.SearchPrivate.{AreNumbers, Goes, IsAnsweredAt, IsSmaller, Marks, others_of}
 use Rattle.dist_explain_search.proofs.GoingLemmas.{exit-stops, goes-join, goes-stop, stops-memory}
 use Rattle.dist_explain_search.proofs.SettledLemmas.{core-answered}
 use Rattle.dist_explain_search.proofs.TryLemmas.{all-done, all-left, closed, core-begun, few-left, goes-not, joined-is, mark-covers, mark-goes, opened}

@@ -1,14 +1,12 @@
-use Rattle.std.proofs.Common.{◌≡◌, ◌∙◌, ℕ, List, [], Bool, Result, ap, subst, sym}
-use Rattle.std.specs.Prelude.{IfErr, IfOk, OnOk}
+use Rattle.std.proofs.Common.{◌≡◌, ◌∙◌, ℕ, List, [], subst, sym}
 use Rattle.std.proofs.lemmas.Result.{IfErr-weaker, on_ok_weaker}
 use Rattle.dist_outside.specs.DeskView.{DeskView}
-use Rattle.dist_outside.specs.declared.trouble.WorkError.{WorkError}
 use Rattle.dist_outside.specs.declared.trouble.WorkError.TheVariants.{NoMemory}
 use Rattle.dist_solver.specs.declared.answers.Answer.{Answer}
 use Rattle.dist_solver.specs.declared.answers.Answer.TheVariants as answers
 use Rattle.dist_inquiry.specs.Asking.{AskStops}
 use Rattle.dist_line_write.specs.Asking.{AskerView}
-use Rattle.dist_line_write.specs.ScriptLaws.{by-exit, two-grow}
+use Rattle.dist_line_write.specs.ScriptLaws.{two-grow}
 use Rattle.dist_inquiry.specs.AnswerText.{NoteMore}
 use Rattle.dist_inquiry.specs.Inquiring.{SettleStops}
 use Rattle.dist_repo.specs.PackageList.{PackageList}

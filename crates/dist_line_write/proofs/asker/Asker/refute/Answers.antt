@@ -41,8 +41,8 @@ returns-in_err-put_question-clause-err g c =
     let t : AskerView = record { log = c.self.inside.solver.log; writer = c.self.inside.writer; limit = c.self.inside.limit } in
     let first : DeskView = g.D.Desk.view c.args.desk.now in
     let last : DeskView = g.D.Desk.view c.put_question.new.desk in
-    let variables = c.variables-stated.ensures.value ∙ ap (λ (l : ClauseLog). l.variables) c.log.ensures.value in
-    let fits : t.log.variables < 2 ^ 32 = omega (arith, variables, c.variables-stated.ensures.stated) in
+    let variables = ap (λ (l : ClauseLog). l.variables) c.log.ensures.value in
+    let fits : t.log.variables < 2 ^ 32 = omega (arith, variables, c.keeps_invariant.ensures.variables) in
     let over = subst (λ (v : AskerView). IsOver v.log.variables c.args.question.now) (sym c.self.view_is) c.requires.question in
     by-exit (λ (r : Result Bool WorkError). IfErr r (AskStops c.args.self.now c.args.question.now first last)) c.from_residual-in_err-put_question.result
     c.in_err-put_question.field-0.0 c.from_residual-in_err-put_question.ensures.1
@@ -56,10 +56,10 @@ returns-in_err-put_refuted-clause-err g c =
     let mid : DeskView = g.D.Desk.view c.put_question.new.desk in
     let last : DeskView = g.D.Desk.view c.put_refuted.new.desk in
     let hints : List ℕ = c.args.hints.now in
-    let variables = c.variables-stated.ensures.value ∙ ap (λ (l : ClauseLog). l.variables) c.log.ensures.value in
-    let fits : t.log.variables < 2 ^ 32 = omega (arith, variables, c.variables-stated.ensures.stated) in
-    let count = c.len-within.ensures.value ∙ ap (λ (l : ClauseLog). length l.clauses) c.log-2.ensures.value in
-    let few : length t.log.clauses < 2 ^ 32 = omega (arith, count, c.len-within.ensures.stated_total) in
+    let variables = ap (λ (l : ClauseLog). l.variables) c.log.ensures.value in
+    let fits : t.log.variables < 2 ^ 32 = omega (arith, variables, c.keeps_invariant.ensures.variables) in
+    let count = ap (λ (l : ClauseLog). length l.clauses) c.log.ensures.value in
+    let few : length t.log.clauses < 2 ^ 32 = omega (arith, count, c.keeps_invariant.ensures.clauses) in
     let over = subst (λ (v : AskerView). IsOver v.log.variables c.args.question.now) (sym c.self.view_is) c.requires.question in
     let refuted = refuted-same c.log-log.result.now t.log c.deref.result.now (clause_of c.args.question.now) hints c.log-log.ensures.value
     (c.deref.ensures.value ∙ c.in_ok-assumptions.ensures) (c.in_ok-refuted.ensures.refuted c.if-not-refuted.false) in
@@ -83,10 +83,10 @@ returns-clause-ok g c told =
     let mid : DeskView = g.D.Desk.view c.put_question.new.desk in
     let last : DeskView = g.D.Desk.view c.put_refuted.new.desk in
     let hints : List ℕ = c.args.hints.now in
-    let variables = c.variables-stated.ensures.value ∙ ap (λ (l : ClauseLog). l.variables) c.log.ensures.value in
-    let fits : t.log.variables < 2 ^ 32 = omega (arith, variables, c.variables-stated.ensures.stated) in
-    let count = c.len-within.ensures.value ∙ ap (λ (l : ClauseLog). length l.clauses) c.log-2.ensures.value in
-    let few : length t.log.clauses < 2 ^ 32 = omega (arith, count, c.len-within.ensures.stated_total) in
+    let variables = ap (λ (l : ClauseLog). l.variables) c.log.ensures.value in
+    let fits : t.log.variables < 2 ^ 32 = omega (arith, variables, c.keeps_invariant.ensures.variables) in
+    let count = ap (λ (l : ClauseLog). length l.clauses) c.log.ensures.value in
+    let few : length t.log.clauses < 2 ^ 32 = omega (arith, count, c.keeps_invariant.ensures.clauses) in
     let over = subst (λ (v : AskerView). IsOver v.log.variables c.args.question.now) (sym c.self.view_is) c.requires.question in
     let refuted = refuted-same c.log-log.result.now t.log c.deref.result.now (clause_of c.args.question.now) hints c.log-log.ensures.value
     (c.deref.ensures.value ∙ c.in_ok-assumptions.ensures) (c.in_ok-refuted.ensures.refuted c.if-not-refuted.false) in

@@ -1,4 +1,4 @@
-use Rattle.std.proofs.Common.{◌≡◌, ℕ, List, [], ◌≤◌, map, length, get_or, slice_get, arith, sym, ap, ◌∙◌}
+use Rattle.std.proofs.Common.{ℕ, List, [], get_or, slice_get, arith, sym, ap, ◌∙◌}
 use Rattle.std.specs.Option.{option_map_or}
 use Rattle.dist_repo.specs.PackageList.{PackageList}
 use Rattle.dist_report.specs.PackageText.{label}
