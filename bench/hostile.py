@@ -458,6 +458,8 @@ ROWS = {
         "".join(stanza(f"p{k:06}", more="Source: s\n") for k in range(n // 2)), [("p000000", "Source: s\n")] * (n // 2))),
     "so many uploads to one package of as many entries, each with the last of them": (80_000, lambda n: followed(
         stanza("p", more="Provides: " + ", ".join(f"e{k}" for k in range(n // 2)) + "\n"), [("p", f"Provides: e{n // 2 - 1}\n")] * (n // 2))),
+    "one upload over the space of so many libraries, each with a bound": (20_000, lambda n: followed("".join(
+        stanza(f"lib{k:06}", more=TOLD) + stanza(f"p{k:06}", more=f"Depends: lib{k:06} (<< 2)\n{TOLD}") for k in range(n)), [("lib000000", "")])),
     "so many questions that reach one chain, each with a new line": (20_000, lambda n: checked(*reaching_a_chain(n))),
     "so many questions that reach one chain, each with a new line behind it": (20_000, lambda n: checked(*behind_a_chain(n))),
     "so many questions that need one chain, each with a new line": (20_000, lambda n: checked(*needing_a_chain(n))),

@@ -1,7 +1,8 @@
 #!/usr/bin/env python3
 """Holds docs/THEOREM.md against the sources. A link [`NAME`] goes to the line that defines NAME, or the field of a record, or the
 clause of a function. Each sentence has a link, each clause of the top call is linked, and what the sentences of the theorem
-link is reached by its clauses, but for laws. The last table counts the definitions that its links reach.
+link is reached by its clauses, but for laws. The last table counts the definitions that its links reach; there are no more than
+GOALS says, and no two of one name among them.
 Usage: theorem.py [--write]    --write puts in the lines and the counts of today; what else is wrong is told"""
 import os
 import re
@@ -19,6 +20,8 @@ USED = re.compile(r"\[`([^`\]]+)`\](?![:(])")
 LINK = re.compile(r"^\[`([^`\]]+)`\]: \.\./(\S+?)#L(\d+)$")
 ROW = re.compile(r"^(\| .* \| )([\d,]+)( \|)$")
 CLAUSE = re.compile(r"^ *ensures (\w+) \{")
+# What a printed line rests on: the most definitions that a row of the table may have, by how the row begins.
+GOALS = {"| `strong` |": 160, "| all of these": 400}
 
 
 def lines_of(path: str) -> list[str]:
@@ -78,6 +81,14 @@ def starts_of(text: str, links: dict[str, tuple[str, int]]) -> list[tuple[str, s
     return [(path, name) for path, name in named if path.endswith(".antt") and name in load(path).lines]
 
 
+def names_twice(starts: list[tuple[str, str]]) -> Iterator[str]:
+    """The names that two of the definitions have which these reach."""
+    homes: dict[str, set[str]] = {}
+    for path, name in all_reached(starts):
+        homes.setdefault(name, set()).add(path)
+    yield from (f"{name} has two meanings among what must be believed: {', '.join(sorted(paths))}" for name, paths in sorted(homes.items()) if len(paths) > 1)
+
+
 def faults_of(lines: list[str], links: dict[str, tuple[str, int]]) -> Iterator[str]:
     """What is wrong, but for lines and counts that changed."""
     text = "\n".join(lines)
@@ -119,6 +130,10 @@ def main(words: list[str]) -> int:
             if count != row[2]:
                 changed.append(f"line {at + 1}: {count} definitions, not {row[2]}")
                 lines[at] = f"{row[1]}{count}{row[3]}"
+            for begin, most in GOALS.items():
+                if line.startswith(begin):
+                    wrong += [f"line {at + 1}: more than {most} definitions"] if int(count.replace(",", "")) > most else []
+                    wrong += names_twice(starts_of(line, links))
     if not wrong:
         wrong += faults_of(lines, links)
     if words and changed:
