@@ -13,7 +13,8 @@ use Rattle.dist_derive.specs.TrueLiterals.{LiteralList, HasOutcome}
 use Rattle.dist_derive.specs.declared.true_literals.Outcome.TheVariants.{Open}
 use Rattle.dist_derive.specs.AssumePrivate.{Assumes}
 use Rattle.dist_derive.specs.SweepPrivate.{IsRefuted, AllOpen}
-use Rattle.dist_derive.specs.WatchesPrivate.{WatchLists, pair_of, list_of, IsPairKept, AreWatchesOf, IsFree, HasTrueOne, IsGuarded, AllGuarded}
+use Rattle.dist_derive.specs.Watches.{WatchLists, pair_of, list_of, IsPairKept, AreWatchesOf, IsFree, HasTrueOne, IsGuarded}
+use Rattle.dist_derive.specs.WatchesPrivate.{AllGuarded}
 use Rattle.dist_derive.specs.WatchesPrivate.{Advances, Looks}
 use Rattle.dist_derive.proofs.LiteralLemmas.{same_or_not}
 use Rattle.dist_derive.proofs.OutcomeLemmas.{other_false}

@@ -13,7 +13,8 @@ use Rattle.dist_derive.specs.New.{LeavesFirstUnset}
 use Rattle.dist_derive.specs.TrueLiterals.{LiteralList}
 use Rattle.dist_derive.specs.SweepPrivate.{IsForced, IsRefuted}
 use Rattle.dist_derive.specs.AssumePrivate.{AssumesAll}
-use Rattle.dist_derive.specs.WatchesPrivate.{WatchLists, pair_of, AreWatchesOf, IsWatched, IsFree, IsGuarded, AllGuarded, StayFree, Advances, Stands}
+use Rattle.dist_derive.specs.Watches.{WatchLists, pair_of, AreWatchesOf, IsWatched, IsFree, IsGuarded, StayFree}
+use Rattle.dist_derive.specs.WatchesPrivate.{AllGuarded, Advances, Stands}
 use Rattle.dist_derive.specs.WatchesPrivate.{WatchingState, IsGrounded, IsStanding, IsStandingIfMade, StandsFor, Tries}
 use Rattle.dist_derive.proofs.AssumeLemmas.{ContainsAll-first, ContainsAll-itself, ContainsAll-second, ContainsAll-then, take-all, front-then}
 use Rattle.dist_derive.proofs.BeginLemmas.{Begins, All-fewer, begins_unset, unset_begins}

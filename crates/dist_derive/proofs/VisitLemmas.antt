@@ -9,7 +9,8 @@ use Rattle.dist_clause.specs.Formula.{Literal, negation}
 use Rattle.dist_clause.specs.ClauseList.{clause_at}
 use Rattle.dist_derive.specs.Propagation.{IsFalse}
 use Rattle.dist_derive.specs.TrueLiterals.{LiteralList}
-use Rattle.dist_derive.specs.WatchesPrivate.{WatchLists, pair_in, pair_of, list_of, HasOther, HasNot, Pends, AreWatchesOf, IsFree, IsGuarded, AllGuarded}
+use Rattle.dist_derive.specs.Watches.{WatchLists, pair_in, pair_of, list_of, HasOther, HasNot, Pends, AreWatchesOf, IsFree, IsGuarded}
+use Rattle.dist_derive.specs.WatchesPrivate.{AllGuarded}
 use Rattle.dist_derive.specs.WatchesPrivate.{Advances, Looks, LooksAgain}
 use Rattle.dist_derive.proofs.LiteralLemmas.{same_or_not}
 use Rattle.dist_derive.proofs.ValuedLemmas.{take_item}

@@ -7,7 +7,7 @@ use Rattle.std.proofs.lemmas.List.{get_or_default, get_or-take, get_or-set_same,
 use Rattle.std.proofs.lemmas.List.Elements.{Contains-push, Contains-append_left}
 use Rattle.dist_clause.specs.Formula.{Literal, literal}
 use Rattle.dist_clause.specs.ClauseList.{clause_at}
-use Rattle.dist_derive.specs.WatchesPrivate.{WatchLists, list_of, pair_in, pair_of, IsPairKept, HasOther, HasNot, Pends, Lists, IsWatched, AreWatchesOf}
+use Rattle.dist_derive.specs.Watches.{WatchLists, list_of, pair_in, pair_of, IsPairKept, HasOther, HasNot, Pends, Lists, IsWatched, AreWatchesOf}
 use Rattle.dist_derive.proofs.LiteralLemmas.{same_or_not}
 
 -- ---- pairs

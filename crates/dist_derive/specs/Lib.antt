@@ -12,6 +12,7 @@ pub mod TrueLiterals
 pub mod HintsPrivate
 pub mod SweepPrivate
 pub mod AssumePrivate
+pub mod Watches
 pub mod WatchesPrivate
 pub mod LogPrivate
 pub mod ConePrivate

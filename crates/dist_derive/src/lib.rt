@@ -41,3 +41,4 @@ pub use occurrences::Link;
 pub use scratch::Scratch;
 pub use true_literals::{Outcome, TrueLiterals, Truth};
 pub use variable_set::VariableSet;
+pub use watches::Watches;

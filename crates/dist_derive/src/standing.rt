@@ -8,7 +8,8 @@ ghost use Rattle.std.specs.Prelude.{◌≡◌, ◌≤◌, ◌↔◌, ◌++◌, f
 ghost use Rattle.dist_clause.specs.Formula.{IsClauseOver};
 ghost use Rattle.dist_derive.specs.ContainmentPrivate.{ContainsAll};
 ghost use Rattle.dist_derive.specs.New.{LeavesFirstUnset};
-ghost use Rattle.dist_derive.specs.WatchesPrivate.{AreWatchesOf, AllGuarded, Tries, IsStanding, IsStandingIfMade, StandsFor};
+ghost use Rattle.dist_derive.specs.Watches.{AreWatchesOf};
+ghost use Rattle.dist_derive.specs.WatchesPrivate.{AllGuarded, Tries, IsStanding, IsStandingIfMade, StandsFor};
 
 use crate::Log;
 use crate::true_literals::TrueLiterals;

@@ -86,7 +86,7 @@ impl TrueLiterals {
     }
 
     /// Whether a literal is true.
-    pub(crate) fn is_true(&self, literal: Lit) -> bool
+    pub fn is_true(&self, literal: Lit) -> bool
         requires { literal.variable ≤ self.now.variables }
         ensures { IsTrue result → Contains self.now.literals literal }
     {
@@ -118,7 +118,7 @@ impl TrueLiterals {
     }
 
     /// A literal of a clause that is not false: this one, if it isn't.
-    pub(crate) fn free(&self, clause: &[Lit], first: Lit) -> Option<Lit>
+    pub fn free(&self, clause: &[Lit], first: Lit) -> Option<Lit>
         requires clause { IsClauseOver self.now.variables clause.now }
         requires member { Contains clause.now first }
         ensures some { IfSome result (λ l. Contains clause.now l × (¬ IsFalse self.now.literals l)) }
@@ -132,7 +132,7 @@ impl TrueLiterals {
     }
 
     /// A literal of a clause that is not false, other than this one.
-    pub(crate) fn other_free(&self, clause: &[Lit], one: Lit) -> Option<Lit>
+    pub fn other_free(&self, clause: &[Lit], one: Lit) -> Option<Lit>
         requires { IsClauseOver self.now.variables clause.now }
         ensures some { IfSome result (λ l. Contains clause.now l × (one ≢ l) × (¬ IsFalse self.now.literals l)) }
         ensures none { IfNone result (OthersFalse self.now.literals clause.now one) }
@@ -158,7 +158,7 @@ impl TrueLiterals {
     }
 
     /// How many literals are true.
-    pub(crate) fn len(&self) -> usize
+    pub fn len(&self) -> usize
         ensures value { result ≡ length self.now.literals }
         ensures few { result ≤ self.now.variables }
         ensures over_variables { IsClauseOver self.now.variables self.now.literals }
@@ -169,7 +169,7 @@ impl TrueLiterals {
     }
 
     /// The literal at a place, from 0 on, in the order in which they became true.
-    pub(crate) fn get(&self, place: usize) -> Lit
+    pub fn get(&self, place: usize) -> Lit
         requires { place < length self.now.literals }
         ensures { result ≡ slice_index_or self.now.literals place result }
     {
@@ -266,7 +266,7 @@ impl TrueLiterals {
     }
 
     /// Makes the literals from a place on unset.
-    pub(crate) fn truncate(&mut self, len: usize)
+    pub fn truncate(&mut self, len: usize)
         ensures { self.new ≡ record self.old { literals = take len self.old.literals } }
     {
         self.touched.truncate(len);

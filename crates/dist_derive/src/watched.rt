@@ -6,7 +6,8 @@
 ghost use Rattle.std.specs.Prelude.{◌≡◌, ◌≤◌, ◌<◌, ◌+◌, false, length, take, IfOk, IsTrue, Contains};
 ghost use Rattle.dist_clause.specs.ClauseList.{clause_at};
 ghost use Rattle.dist_derive.specs.SweepPrivate.{IsRefuted};
-ghost use Rattle.dist_derive.specs.WatchesPrivate.{AreWatchesOf, AllGuarded, Advances, Looks, LooksAgain};
+ghost use Rattle.dist_derive.specs.Watches.{AreWatchesOf};
+ghost use Rattle.dist_derive.specs.WatchesPrivate.{AllGuarded, Advances, Looks, LooksAgain};
 
 use crate::Log;
 use crate::true_literals::TrueLiterals;

@@ -8,7 +8,7 @@ ghost use Rattle.std.specs.Prelude.{◌≡◌, ◌≢◌, ◌+◌, ◌<◌, ◌�
 ghost use Rattle.std.specs.List.{swap_remove};
 ghost use Rattle.dist_clause.specs.Formula.{Literal};
 ghost use Rattle.dist_clause.specs.ClauseList.{clause_at};
-ghost use Rattle.dist_derive.specs.WatchesPrivate.{list_of, pair_of, AreWatchesOf, IsPairKept, Lists, HasOther, HasNot, Pends};
+ghost use Rattle.dist_derive.specs.Watches.{list_of, pair_of, AreWatchesOf, IsPairKept, Lists, HasOther, HasNot, Pends};
 
 use crate::occurrences::code_of;
 use dist_clause::Lit;
@@ -63,7 +63,7 @@ impl Numbers {
 
 /// For each literal the clauses that are found by it, and for each clause its two literals.
 #[derive(Drop)]
-pub(crate) struct Watches {
+pub struct Watches {
     /// By the code of the literal. A number may stand in a list though its clause is found by other literals now.
     lists: Vec<Numbers>,
     /// By the number of the clause, from 1 on. Two equal literals: the clause isn't watched.
@@ -71,7 +71,7 @@ pub(crate) struct Watches {
 }
 
 impl Model for Watches {
-    ghost use Rattle.dist_derive.specs.WatchesPrivate.{WatchLists};
+    ghost use Rattle.dist_derive.specs.Watches.{WatchLists};
 
     ghost Value = { WatchLists };
 
@@ -90,7 +90,7 @@ impl Watches {
     }
 
     /// An empty list for each literal.
-    pub(crate) fn make(alloc: Global, variables: u32) -> Result<Watches, AllocError>
+    pub fn make(alloc: Global, variables: u32) -> Result<Watches, AllocError>
         ensures { IfOk result (λ watches. watches.pairs ≡ []) }
     {
         let mut lists = Vec::new(alloc);
@@ -121,7 +121,7 @@ impl Watches {
     }
 
     /// The number at a place in a literal's list.
-    pub(crate) fn number_at(&self, literal: Lit, place: usize) -> Option<u32>
+    pub fn number_at(&self, literal: Lit, place: usize) -> Option<u32>
         ensures some { IfSome result (λ number. (place < length (list_of self.now literal))
             × (number ≡ slice_index (list_of self.now literal) place)) }
         ensures none { IfNone result (length (list_of self.now literal) ≤ place) }
@@ -133,7 +133,7 @@ impl Watches {
     }
 
     /// The other one of a clause's two literals, where one is this.
-    pub(crate) fn other(&self, number: u32, literal: Lit) -> Option<Lit>
+    pub fn other(&self, number: u32, literal: Lit) -> Option<Lit>
         ensures some { IfSome result (λ other. HasOther (pair_of self.now number) literal other) }
         ensures none { IfNone result (HasNot (pair_of self.now number) literal) }
     {
@@ -155,7 +155,7 @@ impl Watches {
     }
 
     /// Finds a clause by two different literals from now on.
-    pub(crate) fn watch(&mut self, number: u32, one: Lit, other: Lit) -> Result<(), AllocError>
+    pub fn watch(&mut self, number: u32, one: Lit, other: Lit) -> Result<(), AllocError>
         requires from_one { 1 ≤ number }
         requires apart { one ≢ other }
         ensures pair { OnOk result (pair_of self.new number ≡ (one, other)) }
@@ -212,7 +212,7 @@ impl Watches {
 
     /// The next place in a literal's list. A clause that isn't found by this literal any more is taken out, and the last one
     /// of the list comes to its place.
-    pub(crate) fn pass(&mut self, literal: Lit, place: usize, number: u32) -> usize
+    pub fn pass(&mut self, literal: Lit, place: usize, number: u32) -> usize
         requires within { place < length (list_of self.old literal) }
         requires number { number ≡ slice_index (list_of self.old literal) place }
         ensures same_pairs { self.new.pairs ≡ self.old.pairs }

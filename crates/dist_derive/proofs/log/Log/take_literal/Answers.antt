@@ -1,7 +1,8 @@
 use Rattle.std.proofs.Common.{◌≡◌, ◌<◌, Bool, length, ap, sym, subst, arith}
 use Rattle.std.specs.List.{slice_index}
 use Rattle.std.proofs.lemmas.Bool.{false≢true, true≢false}
-use Rattle.dist_derive.specs.WatchesPrivate.{LooksAgain, list_of}
+use Rattle.dist_derive.specs.Watches.{list_of}
+use Rattle.dist_derive.specs.WatchesPrivate.{LooksAgain}
 use Rattle.dist_derive.proofs.GuardLemmas.{advances_then, refuted_later}
 use Rattle.dist_derive.proofs.VisitLemmas.{comes_none, comes_more, comes_end, taken_false, same_item}
 use Rattle.dist_derive.proofs.log.Log.take_literal.Goals as goal

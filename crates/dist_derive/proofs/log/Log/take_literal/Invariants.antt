@@ -1,5 +1,5 @@
 use Rattle.std.proofs.Common.{◌-◌, length}
-use Rattle.dist_derive.specs.WatchesPrivate.{list_of}
+use Rattle.dist_derive.specs.Watches.{list_of}
 use Rattle.dist_derive.proofs.VisitLemmas.{ComesTo}
 use Rattle.dist_derive.proofs.log.Log.take_literal.Given as goal
 

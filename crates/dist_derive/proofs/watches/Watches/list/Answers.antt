@@ -1,6 +1,6 @@
 use Rattle.std.proofs.Common.{◌≡◌, ◌≢◌, [], ◌∷◌, ◌++◌, Result, Ok, Err, OnOk}
 use Rattle.dist_clause.specs.Formula.{Literal}
-use Rattle.dist_derive.specs.WatchesPrivate.{Lists, list_of}
+use Rattle.dist_derive.specs.Watches.{Lists, list_of}
 use Rattle.dist_derive.proofs.WatchLemmas.{listed_more, listed_before}
 use Rattle.dist_derive.proofs.watches.Watches.list.Goals as goal
 

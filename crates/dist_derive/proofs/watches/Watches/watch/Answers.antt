@@ -2,7 +2,7 @@ use Rattle.std.proofs.Common.{◌≡◌, ◌≢◌, ℕ, ◌≤◌, List, Result
 use Rattle.std.specs.List.{Contains}
 use Rattle.dist_clause.specs.Formula.{Literal}
 use Rattle.dist_clause.specs.ClauseList.{clause_at}
-use Rattle.dist_derive.specs.WatchesPrivate.{pair_of, IsPairKept, AreWatchesOf}
+use Rattle.dist_derive.specs.Watches.{pair_of, IsPairKept, AreWatchesOf}
 use Rattle.dist_derive.proofs.WatchLemmas.{watch_watches}
 use Rattle.dist_derive.proofs.watches.Watches.watch.Goals as goal
 
