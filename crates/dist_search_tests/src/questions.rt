@@ -201,15 +201,18 @@ fn seen_of(
     }
 }
 
-/// What a question under some assumptions comes to, with guesses or by the plain descent alone.
-fn ask(alloc: Global, solver: &mut Solver, assumed: &[Lit], limit: u32, plainly: bool) -> Seen
+/// The true variables of no model of a row's question.
+const GUESS: &[u32] = &[1, 21];
+
+/// What a question under some assumptions comes to, with a guess that fails or without.
+fn ask(alloc: Global, solver: &mut Solver, assumed: &[Lit], limit: u32, guessing: bool) -> Seen
     requires variables { solver.old.log.variables ≡ 21 }
     requires assumed { IsClauseOver 21 assumed.now }
     requires limit { 1 ≤ limit }
     ensures { solver.new.log.variables ≡ 21 }
 {
-    let answer = if plainly {
-        solver.ask_plainly(assumed, limit)
+    let answer = if guessing {
+        solver.ask_guessing(assumed, limit, GUESS)
     } else {
         solver.ask(assumed, limit)
     };
@@ -219,14 +222,14 @@ fn ask(alloc: Global, solver: &mut Solver, assumed: &[Lit], limit: u32, plainly:
 }
 
 /// The same of the assumptions of some numbers.
-fn put(alloc: Global, solver: &mut Solver, assumptions: &[i32], limit: u32, plainly: bool) -> Seen
+fn put(alloc: Global, solver: &mut Solver, assumptions: &[i32], limit: u32, guessing: bool) -> Seen
     requires variables { solver.old.log.variables ≡ 21 }
     requires limit { 1 ≤ limit }
     ensures { solver.new.log.variables ≡ 21 }
 {
     match clause(alloc, 21, assumptions) {
         Some(assumed) => {
-            let seen = ask(alloc, solver, &assumed, limit, plainly);
+            let seen = ask(alloc, solver, &assumed, limit, guessing);
             drop(assumed);
             seen
         }
@@ -288,11 +291,11 @@ const ASKED: &[Asked] = &[
 ];
 
 /// Whether a question comes to what it says.
-fn comes_to(alloc: Global, solver: &mut Solver, turn: &Turn, plainly: bool) -> bool
+fn comes_to(alloc: Global, solver: &mut Solver, turn: &Turn, guessing: bool) -> bool
     requires { solver.old.log.variables ≡ 21 }
     ensures { solver.new.log.variables ≡ 21 }
 {
-    turn.1 >= 1 && put(alloc, solver, turn.0, turn.1, plainly) == turn.2
+    turn.1 >= 1 && put(alloc, solver, turn.0, turn.1, guessing) == turn.2
 }
 
 /// Whether the last question added as many lines as it tells, and as many as are wanted, where that is known.
@@ -303,11 +306,11 @@ fn has_grown(solver: &Solver, before: u32, added: Option<usize>) -> bool {
 }
 
 /// Whether a question comes to what its row says, and adds as many lines.
-fn is_right(alloc: Global, solver: &mut Solver, row: &Asked, plainly: bool) -> bool
+fn is_right(alloc: Global, solver: &mut Solver, row: &Asked, guessing: bool) -> bool
     requires { solver.old.log.variables ≡ 21 }
 {
     let before = solver.log().len();
-    comes_to(alloc, solver, &row.2, plainly) && has_grown(solver, before, row.3)
+    comes_to(alloc, solver, &row.2, guessing) && has_grown(solver, before, row.3)
 }
 
 /// Whether questions come to what they say, one after another.
@@ -666,7 +669,7 @@ fn a_guess_that_is_a_model_is_the_answer(rt: HostRuntime) {
 /// What is tried with a solver.
 #[derive(Clone, Copy)]
 enum Trial<'a> {
-    /// A question alone, with guesses or by the plain descent alone.
+    /// A question alone, with a guess that fails or without.
     One(&'a Asked, bool),
     /// Questions one after another.
     Turns(&'a [Turn]),
@@ -683,7 +686,7 @@ fn succeeds(alloc: Global, solver: &mut Solver, trial: &Trial<'_>) -> bool
     requires { solver.old.log.variables ≡ 21 }
 {
     match trial {
-        Trial::One(row, plainly) => is_right(alloc, solver, row, *plainly),
+        Trial::One(row, guessing) => is_right(alloc, solver, row, *guessing),
         Trial::Turns(turns) => are_right(alloc, solver, turns),
         Trial::All(puzzle) => is_agreed(alloc, *puzzle, solver),
         Trial::Line => adds_the_line(alloc, solver),
@@ -709,11 +712,11 @@ fn holds(alloc: Global, puzzle: Puzzle, limits: (u32, u32), trial: &Trial<'_>) -
 
 const MANY: (u32, u32) = (1000, 10000);
 
-/// The place of the first question that comes to something else, with guesses or by the plain descent alone.
-fn wrong_question(alloc: Global, rows: &[Asked], plainly: bool) -> Option<usize> {
+/// The place of the first question that comes to something else, with a guess that fails or without.
+fn wrong_question(alloc: Global, rows: &[Asked], guessing: bool) -> Option<usize> {
     for place in 0..rows.len() {
         let row = &rows[place];
-        if !holds(alloc, row.0, row.1, &Trial::One(row, plainly)) {
+        if !holds(alloc, row.0, row.1, &Trial::One(row, guessing)) {
             return Some(place);
         }
     }
@@ -726,7 +729,7 @@ fn questions_have_their_answers(rt: HostRuntime) {
 }
 
 #[test]
-fn a_plain_descent_has_the_same_answers(rt: HostRuntime) {
+fn a_guess_that_fails_leaves_answers_as_they_are(rt: HostRuntime) {
     assert_eq!(rt; wrong_question(rt.alloc(), ASKED, true), None);
 }
 

@@ -1,16 +1,22 @@
 -- One more line behind those that a question has added.
-use Rattle.std.proofs.Common.{◌≡◌, ℕ, ◌+◌, ◌≤◌, Bool, List, [], ◌∷◌, ◌++◌, length, ap, sym, subst, ◌∙◌, append_assoc, arith}
+use Rattle.std.proofs.Common.{◌≡◌, ℕ, ◌+◌, ◌<◌, ◌≤◌, Bool, List, [], ◌∷◌, ◌++◌, length, ap, sym, subst, ◌∙◌, append_assoc, arith, Result, Ok, Err}
 use Rattle.std.specs.List.{All}
-use Rattle.std.proofs.lemmas.List.{append-nil, length_push, take-append-le}
+use Rattle.std.specs.Result.{IsErrAnd}
+use Rattle.std.proofs.lemmas.List.{append-nil, length_push, length-append, take-append-le}
 use Rattle.std.proofs.lemmas.List.Elements.{All-push}
 use Rattle.dist_clause.specs.Formula.{Literal, value_of, IsModel}
 use Rattle.dist_derive.specs.ClauseLog.{ClauseLog, inputs_of}
 use Rattle.dist_derive.specs.Follows.{Follows}
 use Rattle.dist_derive.specs.New.{IsNew, EachIsNew}
+use Rattle.dist_search.specs.Learned.{LearnedClause}
+use Rattle.dist_search.specs.Search.{IsFound, IsNewLine}
 use Rattle.dist_solver.specs.Derived.{DerivedLine}
 use Rattle.dist_solver.specs.Evidence.{EachIsEvidence, IsShort, Adds}
-use Rattle.dist_solver.specs.Ask.{IsModelUnder}
-use Rattle.dist_solver.specs.DescentPrivate.{IsLesson}
+use Rattle.dist_solver.specs.Ask.{IsModelUnder, HasNext, IsAnswer}
+use Rattle.dist_solver.specs.LearningPrivate.{IsRefused}
+use Rattle.dist_solver.specs.declared.answers.Answer.{Answer}
+use Rattle.dist_solver.specs.declared.answers.AskError.{AskError}
+use Rattle.dist_solver.specs.declared.answers.AskError.TheVariants.{TooManyLines, TooManyLiterals, NoMemory}
 
 evidence_more : (clauses lines : List (List Literal)) (derived : List DerivedLine) (clause : List Literal) (d : DerivedLine)
     → EachIsEvidence clauses lines derived
@@ -40,33 +46,81 @@ new_more clauses (line ∷ lines) inputs assumptions clause h is_new = (
 )
 
 module _ (old new : ClauseLog) (derived : List DerivedLine) (assumptions : List Literal) (count : ℕ) (adds : Adds old new derived assumptions count) where
-  pub adds_more : (next : ClauseLog) (more : List DerivedLine) (clause : List Literal) (hints : List ℕ) → IsLesson new assumptions clause hints
-      → next ≡ record new { clauses = new.clauses ++ clause ∷ [] } → more ≡ derived ++ record { line = length new.clauses + 1; hints = hints } ∷ []
+  pub adds_more : (next : ClauseLog) (more : List DerivedLine) (learned : LearnedClause) → IsNewLine new assumptions learned
+      → next ≡ record new { clauses = new.clauses ++ learned.clause ∷ [] }
+      → more ≡ derived ++ record { line = length new.clauses + 1; hints = learned.hints } ∷ []
       → Adds old next more assumptions (count + 1)
-  adds_more next more clause hints lesson log_is derived_is = record {
-    lines = adds.lines ++ clause ∷ [];
-    log = log_is ∙ (ap (λ (l : ClauseLog). record l { clauses = l.clauses ++ clause ∷ [] }) adds.log
-        ∙ ap (λ cs. record old { clauses = cs }) (append_assoc old.clauses adds.lines (clause ∷ [])));
-    follow = subst (λ ds. EachIsEvidence old.clauses (adds.lines ++ clause ∷ []) ds) (sym derived_is)
-        (evidence_more old.clauses adds.lines derived clause (record { line = length new.clauses + 1; hints = hints }) adds.follow
-        (ap (λ (l : ClauseLog). length l.clauses + 1) adds.log) (subst (λ (l : ClauseLog). Follows l.clauses clause hints) adds.log lesson.follows));
-    are_new = new_more old.clauses adds.lines old.inputs assumptions clause adds.are_new
-        (subst (λ (l : ClauseLog). IsNew l.clauses l.inputs assumptions clause) adds.log lesson.is_new);
+  adds_more next more learned lesson log_is derived_is = record {
+    lines = adds.lines ++ learned.clause ∷ [];
+    log = log_is ∙ (ap (λ (l : ClauseLog). record l { clauses = l.clauses ++ learned.clause ∷ [] }) adds.log
+        ∙ ap (λ cs. record old { clauses = cs }) (append_assoc old.clauses adds.lines (learned.clause ∷ [])));
+    follow = subst (λ ds. EachIsEvidence old.clauses (adds.lines ++ learned.clause ∷ []) ds) (sym derived_is)
+        (evidence_more old.clauses adds.lines derived learned.clause (record { line = length new.clauses + 1; hints = learned.hints }) adds.follow
+        (ap (λ (l : ClauseLog). length l.clauses + 1) adds.log)
+        (subst (λ (l : ClauseLog). Follows l.clauses learned.clause learned.hints) adds.log lesson.follows));
+    are_new = new_more old.clauses adds.lines old.inputs assumptions learned.clause adds.are_new
+        (subst (λ (l : ClauseLog). IsNew l.clauses l.inputs assumptions learned.clause) adds.log lesson.is_new);
     short = subst (λ ds. All (λ d. IsShort old.variables d.hints) ds) (sym derived_is)
-        (All-push (λ d. IsShort old.variables d.hints) derived (record { line = length new.clauses + 1; hints = hints }) adds.short
-        (subst (λ (l : ClauseLog). IsShort l.variables hints) adds.log lesson.short));
-    few = omega (arith, adds.few, length_push adds.lines clause);
+        (All-push (λ d. IsShort old.variables d.hints) derived (record { line = length new.clauses + 1; hints = learned.hints }) adds.short
+        (subst (λ (l : ClauseLog). IsShort l.variables learned.hints) adds.log lesson.short));
+    few = omega (arith, adds.few, length_push adds.lines learned.clause);
+  }
+
+  -- the same under a higher limit
+  pub at_most : (limit : ℕ) → count ≤ limit → Adds old new derived assumptions limit
+  at_most limit within = record {
+    lines = adds.lines;
+    log = adds.log;
+    follow = adds.follow;
+    are_new = adds.are_new;
+    short = adds.short;
+    few = omega (arith, adds.few, within);
   }
 
   pub inputs_same : old.inputs ≤ length old.clauses → inputs_of new ≡ inputs_of old
   inputs_same within = ap inputs_of adds.log ∙ take-append-le old.inputs old.clauses adds.lines within
 
+  pub inputs_within : old.inputs ≤ length old.clauses → new.inputs ≤ length new.clauses
+  inputs_within within = omega (
+    arith,
+    within,
+    ap (λ (l : ClauseLog). l.inputs) adds.log,
+    ap (λ (l : ClauseLog). length l.clauses) adds.log,
+    length-append old.clauses adds.lines,
+  )
+
   variables_same : new.variables ≡ old.variables
   variables_same = ap (λ (l : ClauseLog). l.variables) adds.log
 
-  pub model_of_old : (values : List Bool) → old.inputs ≤ length old.clauses → IsModelUnder new assumptions values → IsModelUnder old assumptions values
+  pub model_of_old : (values : List Bool) → old.inputs ≤ length old.clauses → IsFound new assumptions values → IsModelUnder old assumptions values
   model_of_old values within m = record {
     variables = m.variables ∙ variables_same;
     model = subst (λ cs. IsModel (value_of values) cs) (inputs_same within) m.model;
     assumed = m.assumed;
   }
+
+  -- a log refuses a line that it could have
+  pub refused : (next : ClauseLog) (learned : LearnedClause) (limit : ℕ) (cause : AskError) (r : Result Answer AskError) → IsNewLine new assumptions learned
+      → length new.clauses ≡ length old.clauses + count → count < limit → next ≡ new → IsRefused new learned.clause cause → IsErrAnd r (λ e. e ≡ cause)
+      → IsAnswer old next assumptions limit r
+  refused next learned limit cause r line exact left same refusal is =
+      subst (λ l. IsAnswer old l assumptions limit r) (sym same) (answered r is)
+    where
+      has_next : HasNext old new assumptions limit learned.clause
+      has_next = record {
+        over = line.over;
+        hints = learned.hints;
+        follows = line.follows;
+        short = line.short;
+        is_new = line.is_new;
+        lines_left = omega (arith, exact, left);
+      }
+
+      at : (e : AskError) → IsRefused new learned.clause e → IsAnswer old new assumptions limit (Err e)
+      at TooManyLines h = (learned.clause, has_next, h)
+      at TooManyLiterals h = (learned.clause, has_next, h.0, h.1)
+      at NoMemory h = tt
+
+      answered : (a : Result Answer AskError) → IsErrAnd a (λ e. e ≡ cause) → IsAnswer old new assumptions limit a
+      answered (Ok x) h = absurd h
+      answered (Err e) h = subst (λ f. IsAnswer old new assumptions limit (Err f)) (sym h) (at cause refusal)

@@ -1,9 +1,4 @@
-pub mod StartLemmas
-pub mod SweepLemmas
-pub mod ValueLemmas
-pub mod LessonLemmas
-pub mod DecisionLemmas
-pub mod ModelLemmas
 pub mod KeptLemmas
-pub mod EvidenceLemmas
 pub mod TestedLemmas
+pub mod RefutationLemmas
+pub mod EvidenceLemmas

@@ -1,9 +1,10 @@
--- A line is added to the log, or is refused at one of its limits.
+-- A line is added to the log, or is refused at one of its limits; and what want of memory leaves open.
 use Rattle.std.specs.Prelude.{◌≡◌, ◌+◌, ◌<◌, ℕ, List, [], ◌∷◌, ◌++◌, length, Result, Ok, Err}
 use Rattle.dist_clause.specs.Formula.{Literal}
 use Rattle.dist_clause.specs.ClauseList.{literal_count}
 use Rattle.dist_derive.specs.ClauseLog.{ClauseLog, lines_of}
 use Rattle.dist_solver.specs.Derived.{DerivedLine}
+use Rattle.dist_solver.specs.declared.answers.Answer.{Answer}
 use Rattle.dist_solver.specs.declared.answers.AskError.{AskError}
 use Rattle.dist_solver.specs.declared.answers.AskError.TheVariants.{TooManyLines, TooManyLiterals, NoMemory}
 
@@ -22,3 +23,10 @@ Learns old new old_derived new_derived clause hints (Ok done) =
     × (new_derived ≡ old_derived ++ record { line = length old.clauses + 1; hints = hints } ∷ [])
 Learns old new old_derived new_derived clause hints (Err cause) = (new ≡ old) × (new_derived ≡ old_derived)
     × IsRefused old clause cause
+
+-- this holds, unless memory was wanting
+abbrev pub UnlessNoMemory : Result Answer AskError → Type 0 → Type 0
+UnlessNoMemory (Ok answer) P = P
+UnlessNoMemory (Err TooManyLines) P = P
+UnlessNoMemory (Err TooManyLiterals) P = P
+UnlessNoMemory (Err NoMemory) P = Unit {0}

@@ -3,7 +3,6 @@ pub mod Kept
 pub mod Evidence
 pub mod Ask
 pub mod RefusalPrivate
-pub mod Trail
-pub mod DescentPrivate
+pub mod ShownPrivate
 pub mod LearningPrivate
 pub mod Examples

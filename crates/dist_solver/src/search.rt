@@ -2,23 +2,26 @@
 
 ghost use Rattle.std.specs.Prelude.{◌≡◌, ◌<◌, ◌≤◌, ◌↔◌, ℕ, [], length, Contains, IfOk, IfSome};
 ghost use Rattle.dist_clause.specs.Formula.{IsClauseOver};
-ghost use Rattle.dist_derive.specs.ClauseLog.{inputs_of};
+ghost use Rattle.dist_derive.specs.ClauseLog.{ClauseLog, inputs_of};
 ghost use Rattle.dist_derive.specs.Follows.{EachLineFollows};
 ghost use Rattle.dist_derive.specs.Cone.{InCone};
+ghost use Rattle.dist_derive.specs.Safe.{AreSafe};
 ghost use Rattle.dist_solver.specs.Evidence.{Adds};
 ghost use Rattle.dist_solver.specs.Ask.{IsAnswer};
-ghost use Rattle.dist_solver.specs.DescentPrivate.{IsEnd};
-ghost use Rattle.dist_solver.specs.LearningPrivate.{Learns};
+ghost use Rattle.dist_solver.specs.Kept.{IsReady};
+ghost use Rattle.dist_solver.specs.LearningPrivate.{Learns, UnlessNoMemory};
 
-use crate::answers::{Answer, AskError};
-use crate::descent::{Descent, descend};
+use crate::answers::{Answer, AskError, Hints};
 use crate::guesses::Guesses;
 use crate::lines::Derived;
-use crate::trail::Trail;
-use dist_base::{MAX_LINE_LITERALS, MAX_LINES};
+use dist_base::{MAX_LINE_LITERALS, MAX_LINES, MAX_VARIABLES};
 use dist_clause::{Assignment, ClauseSet, Lit};
-use dist_derive::{Log, VariableSet, more_clauses_keep_what_follows, new_lines_are_few};
+use dist_derive::{
+    Log, VariableSet, lines_keep_models, more_clauses_keep_what_follows, new_lines_are_few,
+    what_is_safe,
+};
 use dist_quick::Shunning;
+use dist_search::{End, Search};
 use std::alloc::{AllocError, Global};
 use std::marker::Model;
 
@@ -27,9 +30,10 @@ use std::marker::Model;
 pub struct Solver {
     entries: Log,
     added: Derived,
-    trail: Trail,
     cone: VariableSet,
     guesses: Guesses,
+    /// What the last question left, to be gone on with at the next one.
+    search: Option<Search>,
     alloc: Global,
 }
 
@@ -41,7 +45,7 @@ impl Model for Solver {
 
     ghost view = { λ a. record { log = a.entries; derived = a.added } };
 
-    ghost invariant = { λ a. IsSound a.entries a.trail.variables a.cone.variables a.guesses };
+    ghost invariant = { λ a. IsSound a.entries a.cone.variables a.guesses a.search };
 }
 
 impl Solver {
@@ -66,19 +70,12 @@ impl Solver {
           derived = [];
         }) }
     {
+        what_is_safe();
         let variables = clauses.variables();
         let entries = Log::covered(alloc, clauses, lines, line_literals)?;
-        let trail = match Trail::new(alloc, variables) {
-            Ok(trail) => trail,
-            Err(error) => {
-                drop(entries);
-                return Err(error);
-            }
-        };
         let cone = match VariableSet::new(alloc, variables) {
             Ok(cone) => cone,
             Err(error) => {
-                drop(trail);
                 drop(entries);
                 return Err(error);
             }
@@ -87,14 +84,13 @@ impl Solver {
             Ok(guesses) => Ok(Solver {
                 entries,
                 added: Derived::new(alloc),
-                trail,
                 cone,
                 guesses,
+                search: None,
                 alloc,
             }),
             Err(error) => {
                 drop(cone);
-                drop(trail);
                 drop(entries);
                 Err(error)
             }
@@ -164,39 +160,32 @@ impl Solver {
         if let Some(answer) = first {
             return Ok(answer);
         }
-        self.look(assumptions, limit, true)
+        self.look(assumptions, limit)
     }
 
-    /// The same by the plain descent alone, with no guess: slow, and what the answers of `ask` are compared with.
-    pub fn ask_plainly(&mut self, assumptions: &[Lit], limit: u32) -> Result<Answer, AskError>
+    /// Searches for an answer within the cone of the assumptions.
+    fn look(&mut self, assumptions: &[Lit], limit: u32) -> Result<Answer, AskError>
         requires limit { 1 ≤ limit }
         requires assumptions { IsClauseOver self.old.log.variables assumptions.now }
         ensures adds { Adds self.old.log self.new.log self.new.derived assumptions.now limit }
         ensures answer { IsAnswer self.old.log self.new.log assumptions.now limit result }
     {
-        self.look(assumptions, limit, false)
-    }
-
-    /// Looks for an answer within the cone of the assumptions, by guesses or without.
-    fn look(&mut self, assumptions: &[Lit], limit: u32, guessing: bool) -> Result<Answer, AskError>
-        requires limit { 1 ≤ limit }
-        requires assumptions { IsClauseOver self.old.log.variables assumptions.now }
-        ensures adds { Adds self.old.log self.new.log self.new.derived assumptions.now limit }
-        ensures answer { IsAnswer self.old.log self.new.log assumptions.now limit result }
-    {
+        self.entries.keeps_invariant();
         self.added.clear();
         self.entries.mark_cone(&mut self.cone, assumptions);
-        self.guesses.turn_to_another(guessing);
-        search(
+        let kept = self.search.take();
+        let mut search = search_of(self.alloc, kept, self.entries.variables())?;
+        let answer = find_answer(
             self.alloc,
             &mut self.entries,
             &mut self.added,
-            &mut self.guesses,
-            &mut self.trail,
+            &mut search,
             &self.cone,
             assumptions,
             limit,
-        )
+        );
+        self.search = kept_after(&answer, search);
+        answer
     }
 
     /// The input clauses and all lines derived from them.
@@ -214,78 +203,81 @@ impl Solver {
         &self.added
     }
 
-    /// How many guesses of the searches failed their tests, for all questions so far. Each of them is a fault of a search,
-    /// which shows in no answer, but may cost a walk over all clauses. A guess that came with a question is not counted.
+    /// How many guesses of the quick phase failed their tests, for all questions so far. Each of them is a fault of that phase,
+    /// which shows in no answer, but costs a search. A guess that came with a question is not counted.
     pub fn failed_guesses(&self) -> u64 {
         self.guesses.failed()
     }
 }
 
-/// Descends until an answer comes, at most `limit` times; each descent without one adds a line. The cone of the
-/// assumptions is given.
-fn search(
+/// The search that is kept, or a new one.
+fn search_of(alloc: Global, kept: Option<Search>, variables: u32) -> Result<Search, AllocError>
+    requires { variables ≤ MAX_VARIABLES }
+    ensures { (log : ClauseLog) → variables ≡ log.variables → IfSome kept (IsReady log) → IfOk result (IsReady log) }
+{
+    match kept {
+        Some(search) => Ok(search),
+        None => Search::new(alloc, variables),
+    }
+}
+
+/// The search, unless memory was wanting: it is of no use then.
+fn kept_after(answer: &Result<Answer, AskError>, search: Search) -> Option<Search>
+    ensures { (log : ClauseLog) → UnlessNoMemory answer.now (IsReady log search) → IfSome result (IsReady log) }
+{
+    match answer {
+        Err(AskError::NoMemory) => {
+            drop(search);
+            None
+        }
+        _ => Some(search),
+    }
+}
+
+/// Searches until an answer comes, at most `limit` times; each time without one adds a line. The cone of the assumptions is
+/// given. Unless memory was wanting, the search is ready for the next question.
+fn find_answer(
     alloc: Global,
     log: &mut Log,
     derived: &mut Derived,
-    guesses: &mut Guesses,
-    trail: &mut Trail,
+    search: &mut Search,
     cone: &VariableSet,
     assumptions: &[Lit],
     limit: u32,
 ) -> Result<Answer, AskError>
-    requires guesses { guesses.old ≡ log.old.variables }
     requires assumptions { IsClauseOver log.old.variables assumptions.now }
     requires cone_variables { cone.now.variables ≡ log.old.variables }
     requires cone { (v : ℕ) → Contains cone.now.members v ↔ InCone (inputs_of log.old) assumptions.now v }
-    requires trail { trail.old.variables ≡ log.old.variables }
+    requires ready { IsReady log.old search.old }
     requires none { derived.old ≡ [] }
     requires lines_follow { EachLineFollows log.old.inputs log.old.clauses }
+    requires safe { AreSafe (inputs_of log.old) log.old.clauses }
     ensures adds { Adds log.old log.new derived.new assumptions.now limit }
     ensures answer { IsAnswer log.old log.new assumptions.now limit result }
     ensures lines_follow { EachLineFollows log.new.inputs log.new.clauses }
-    ensures same_variables { trail.new.variables ≡ trail.old.variables }
-    ensures same_guesses { guesses.new ≡ guesses.old }
+    ensures safe { AreSafe (inputs_of log.new) log.new.clauses }
+    ensures ready { UnlessNoMemory result (IsReady log.new search.new) }
 {
     new_lines_are_few();
     more_clauses_keep_what_follows();
+    what_is_safe();
+    lines_keep_models();
     log.keeps_invariant();
+    search.start(log, cone, assumptions)?;
     for _ in 0..limit {
-        match next_end(alloc, log, guesses, trail, cone, assumptions)? {
-            Descent::Model(values) => return Ok(Answer::Found(values)),
-            Descent::Refutation(hints) => return Ok(Answer::Refuted(hints)),
-            Descent::Lesson(clause, hints) => {
-                learn(log, derived, &clause, hints.as_slice())?;
-                guesses.learned(log.len());
+        match search.next(alloc, log, cone, assumptions)? {
+            End::Model(values) => return Ok(Answer::Found(values)),
+            End::Refutation => {
+                let hints = Vec::from_slice(alloc, search.hints())?;
+                return Ok(Answer::Refuted(Hints::of(hints)));
+            }
+            End::Lesson => {
+                learn(log, derived, search.clause(), search.hints())?;
+                search.learned(log, cone, assumptions)?;
             }
         }
     }
     Ok(Answer::Undecided)
-}
-
-/// The next end: the one that is guessed, where it passes its test, or else that of a descent from the assumptions.
-fn next_end(
-    alloc: Global,
-    log: &mut Log,
-    guesses: &mut Guesses,
-    trail: &mut Trail,
-    cone: &VariableSet,
-    assumptions: &[Lit],
-) -> Result<Descent, AllocError>
-    requires guesses { guesses.old ≡ log.old.variables }
-    requires assumptions { IsClauseOver log.old.variables assumptions.now }
-    requires cone_variables { cone.now.variables ≡ log.old.variables }
-    requires cone { (v : ℕ) → Contains cone.now.members v ↔ InCone (inputs_of log.old) assumptions.now v }
-    requires trail { trail.old.variables ≡ log.old.variables }
-    requires lines_follow { EachLineFollows log.old.inputs log.old.clauses }
-    ensures ends { IfOk result (IsEnd log.old assumptions.now) }
-    ensures same_log { log.new ≡ log.old }
-    ensures same_variables { trail.new.variables ≡ trail.old.variables }
-    ensures same_guesses { guesses.new ≡ guesses.old }
-{
-    if let Some(end) = guesses.next(alloc, log, cone, assumptions)? {
-        return Ok(end);
-    }
-    descend(alloc, log, trail, cone.members(), assumptions)
 }
 
 /// Adds a line to the log, and to the derived lines its number and hints; or to neither.

@@ -1,17 +1,13 @@
-//! Guesses at an answer, each tested before it leaves: nothing is believed of the search that made it.
+//! Guesses at an answer, each tested before it leaves: nothing is believed of what made it.
 
-ghost use Rattle.std.specs.Prelude.{◌≡◌, ◌↔◌, IfOk, IfSome, IsTrue, List, length, map, All, Bool, Contains, ℕ};
-ghost use Rattle.dist_clause.specs.Formula.{Literal, IsClauseOver, negation, value_of, IsTrueLiteral};
-ghost use Rattle.dist_derive.specs.ClauseLog.{ClauseLog, inputs_of};
-ghost use Rattle.dist_derive.specs.Cone.{InCone};
+ghost use Rattle.std.specs.Prelude.{◌≡◌, IfOk, IfSome, IsTrue, length, map, All, Bool, ℕ};
+ghost use Rattle.dist_clause.specs.Formula.{IsClauseOver, negation, value_of, IsTrueLiteral};
 ghost use Rattle.dist_derive.specs.Follows.{EachLineFollows};
 ghost use Rattle.dist_derive.specs.VariableSet.{GivesTrue};
 ghost use Rattle.dist_solver.specs.Evidence.{IsShort};
 ghost use Rattle.dist_solver.specs.Ask.{IsModelUnder, IsRefutation};
-ghost use Rattle.dist_solver.specs.DescentPrivate.{IsLesson, IsEnd};
 
 use crate::answers::Hints;
-use crate::descent::Descent;
 use dist_clause::{Assignment, Lit};
 use dist_derive::{Log, Scratch, VariableSet, lines_keep_models};
 use std::alloc::{AllocError, Global};
@@ -93,39 +89,6 @@ impl Tests {
         }
         Ok(Some(Hints::of(Vec::from_slice(alloc, hints)?)))
     }
-
-    /// Whether a clause follows by hints, not too many, and is new. The cone of the assumptions is given.
-    pub(crate) fn is_lesson(
-        &mut self,
-        log: &mut Log,
-        cone: &VariableSet,
-        assumptions: &[Lit],
-        clause: &[Lit],
-        hints: &[u32],
-    ) -> bool
-        requires same_variables { self.old ≡ log.old.variables }
-        requires assumptions { IsClauseOver log.old.variables assumptions.now }
-        requires cone_variables { cone.now.variables ≡ log.old.variables }
-        requires cone { (v : ℕ) → Contains cone.now.members v ↔ InCone (inputs_of log.old) assumptions.now v }
-        ensures lesson { IsTrue result → IsLesson log.old assumptions.now clause.now hints.now }
-        ensures same_log { log.new ≡ log.old }
-        ensures same_variables { self.new ≡ self.old }
-    {
-        is_clause(&mut self.variables, log.variables(), clause)
-            && is_short(log, hints)
-            && log.follows(&mut self.scratch, clause, hints)
-            && log.is_new_within(&mut self.scratch, cone, assumptions, clause)
-    }
-}
-
-/// A lesson of a clause and hints.
-pub(crate) fn lesson(alloc: Global, clause: &[Lit], hints: &[u32]) -> Result<Descent, AllocError>
-    ensures { (log : ClauseLog) (assumed : List Literal) → IsLesson log assumed clause.now hints.now
-        → IfOk result (IsEnd log assumed) }
-{
-    let clause = Vec::from_slice(alloc, clause)?;
-    let hints = Vec::from_slice(alloc, hints)?;
-    Ok(Descent::Lesson(clause, Hints::of(hints)))
 }
 
 /// Makes a set that of the listed variables; answers whether all are in range.
@@ -176,20 +139,4 @@ fn is_short(log: &Log, hints: &[u32]) -> bool
     ensures { IsTrue result → IsShort log.now.variables hints.now }
 {
     hints.len() <= log.variables() as usize + 1
-}
-
-/// Whether literals are in range, and no variable stands twice among them.
-fn is_clause(set: &mut VariableSet, variables: u32, clause: &[Lit]) -> bool
-    requires { variables ≡ set.old.variables }
-    ensures clause { IsTrue result → IsClauseOver variables clause.now }
-    ensures same_variables { set.new.variables ≡ set.old.variables }
-{
-    set.clear();
-    for literal in clause {
-        if literal.variable() > variables || !set.include(literal.variable()) {
-            return false;
-        }
-    }
-    set.keeps_invariant();
-    true
 }

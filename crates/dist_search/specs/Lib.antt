@@ -1,0 +1,10 @@
+pub mod Trail
+pub mod TrailPrivate
+pub mod Guard
+pub mod GuardPrivate
+pub mod Learned
+pub mod AnalysisPrivate
+pub mod Search
+pub mod SearchPrivate
+pub mod StepsPrivate
+pub mod QuestionPrivate

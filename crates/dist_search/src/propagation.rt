@@ -1,0 +1,143 @@
+//! Unit propagation by watched literals, within a cone.
+//!
+//! The true literals are taken in the order in which they became true, each with the clauses that are found by its negation. A
+//! clause that gives a literal outside the cone is left alone: such a literal has no value in this question, and a clause that
+//! reaches there has a negative literal outside, which no model has to make false.
+
+ghost use Rattle.std.specs.Prelude.{◌≡◌, ◌≤◌, length, take, Contains, IfOk, IfSome, IfNone};
+ghost use Rattle.dist_clause.specs.ClauseList.{clause_at};
+ghost use Rattle.dist_derive.specs.Propagation.{AllFalse};
+ghost use Rattle.dist_derive.specs.Follows.{IsNumberOf};
+ghost use Rattle.dist_derive.specs.Watches.{AreWatchesOf};
+ghost use Rattle.dist_search.specs.Guard.{AreGuarded, Advances};
+ghost use Rattle.dist_search.specs.GuardPrivate.{IsTaking, GoesOn, IsConflict, Looks, LooksAgain};
+
+use crate::trail::Trail;
+use dist_clause::Lit;
+use dist_derive::{Log, VariableSet, Watches};
+use std::alloc::AllocError;
+
+/// Takes all true literals, and makes true what clauses give; answers the number of a clause that is false then, if there is one.
+/// After want of memory nothing is known of the watches.
+pub(crate) fn propagate(
+    log: &Log,
+    cone: &VariableSet,
+    watches: &mut Watches,
+    trail: &mut Trail,
+) -> Result<Option<u32>, AllocError>
+    requires same_variables { trail.old.variables ≡ log.now.variables }
+    requires cone_variables { cone.now.variables ≡ log.now.variables }
+    requires watches { AreWatchesOf watches.old log.now.clauses }
+    requires guarded { AreGuarded watches.old log.now.clauses cone.now.members trail.old.literals
+        (take trail.old.head trail.old.literals) }
+    ensures advances { IfOk result (λ found. Advances log.now.clauses cone.now.members watches.old watches.new trail.old trail.new) }
+    ensures settled { IfOk result (λ found. IfNone found (AreGuarded watches.new log.now.clauses cone.now.members trail.new.literals
+        trail.new.literals)) }
+    ensures taken { IfOk result (λ found. IfNone found (trail.new.head ≡ length trail.new.literals)) }
+    ensures conflict { IfOk result (λ found. IfSome found (λ number. IsNumberOf log.now.clauses number
+        × AllFalse trail.new.literals (clause_at log.now.clauses number))) }
+    ensures same_variables { trail.new.variables ≡ trail.old.variables }
+{
+    trail.keeps_invariant();
+    while let Some(literal) = trail.take_next() {
+        trail.keeps_invariant();
+        if let Some(number) = take_literal(log, cone, watches, trail, literal)? {
+            return Ok(Some(number));
+        }
+    }
+    Ok(None)
+}
+
+/// Looks at the clauses that are found by the negation of the literal that was taken last; answers the number of one that is false.
+fn take_literal(
+    log: &Log,
+    cone: &VariableSet,
+    watches: &mut Watches,
+    trail: &mut Trail,
+    taken: Lit,
+) -> Result<Option<u32>, AllocError>
+    requires same_variables { trail.old.variables ≡ log.now.variables }
+    requires cone_variables { cone.now.variables ≡ log.now.variables }
+    requires watches { AreWatchesOf watches.old log.now.clauses }
+    requires taking { IsTaking watches.old log.now.clauses cone.now.members trail.old taken }
+    ensures goes_on { IfOk result (λ found. GoesOn log.now.clauses cone.now.members watches.old watches.new trail.old trail.new) }
+    ensures guarded { IfOk result (λ found. IfNone found (AreGuarded watches.new log.now.clauses cone.now.members trail.new.literals
+        (take trail.new.head trail.new.literals))) }
+    ensures conflict { IfOk result (λ found. IfSome found (λ number. IsConflict log.now.clauses trail.new.literals number)) }
+    ensures same_variables { trail.new.variables ≡ trail.old.variables }
+{
+    trail.keeps_invariant();
+    let literal = taken.negated();
+    let mut place = 0;
+    while let Some(number) = watches.number_at(literal, place) {
+        if !look_again(log, cone, watches, trail, number, literal)? {
+            return Ok(Some(number));
+        }
+        place = watches.pass(literal, place, number);
+    }
+    Ok(None)
+}
+
+/// Looks at a clause where it is found by a literal that is false now; answers whether it is not false.
+fn look_again(
+    log: &Log,
+    cone: &VariableSet,
+    watches: &mut Watches,
+    trail: &mut Trail,
+    number: u32,
+    literal: Lit,
+) -> Result<bool, AllocError>
+    requires same_variables { trail.old.variables ≡ log.now.variables }
+    requires cone_variables { cone.now.variables ≡ log.now.variables }
+    requires watches { AreWatchesOf watches.old log.now.clauses }
+    ensures looks { IfOk result (λ fine. LooksAgain log.now.clauses cone.now.members number literal watches.old watches.new
+        trail.old trail.new fine) }
+    ensures same_variables { trail.new.variables ≡ trail.old.variables }
+{
+    trail.keeps_invariant();
+    if number == 0 || number > log.len() {
+        return Ok(true);
+    }
+    let Some(other) = watches.other(number, literal) else {
+        return Ok(true);
+    };
+    look(log, cone, watches, trail, number, other)
+}
+
+/// Looks at a clause, first at one of its literals: finds it by two literals that are not false from now on, or makes its last one
+/// true, if that lies within the cone; answers whether it is not false.
+fn look(
+    log: &Log,
+    cone: &VariableSet,
+    watches: &mut Watches,
+    trail: &mut Trail,
+    number: u32,
+    first: Lit,
+) -> Result<bool, AllocError>
+    requires same_variables { trail.old.variables ≡ log.now.variables }
+    requires cone_variables { cone.now.variables ≡ log.now.variables }
+    requires watches { AreWatchesOf watches.old log.now.clauses }
+    requires from_one { 1 ≤ number }
+    requires to_last { number ≤ length log.now.clauses }
+    requires member { Contains (clause_at log.now.clauses number) first }
+    ensures looks { IfOk result (λ fine. Looks log.now.clauses cone.now.members number watches.old watches.new trail.old trail.new fine) }
+    ensures same_variables { trail.new.variables ≡ trail.old.variables }
+{
+    log.keeps_invariant();
+    trail.keeps_invariant();
+    if trail.trues().is_true(first) {
+        return Ok(true);
+    }
+    let clause = log.clause(number);
+    let Some(one) = trail.trues().free(clause, first) else {
+        return Ok(false);
+    };
+    if let Some(other) = trail.trues().other_free(clause, one) {
+        watches.watch(number, one, other)?;
+        return Ok(true);
+    }
+    if cone.contains(one.variable()) && trail.trues().is_unset(one) {
+        trail.push(one, number);
+    }
+    Ok(true)
+}

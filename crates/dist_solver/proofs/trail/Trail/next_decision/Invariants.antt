@@ -1,7 +1,0 @@
-use Rattle.std.proofs.Common.{take}
-use Rattle.std.specs.List.{All}
-use Rattle.dist_solver.specs.Trail.{IsSet}
-use Rattle.dist_solver.proofs.trail.Trail.next_decision.Given as goal
-
-abbrev pub invariant-loop-variable : goal.invariant-loop-variable
-invariant-loop-variable l = All (IsSet l.self.literals) (take l.variable-index l.cone)

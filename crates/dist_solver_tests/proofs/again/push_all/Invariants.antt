@@ -1,0 +1,5 @@
+use Rattle.std.proofs.Common.{◌≡◌}
+use Rattle.dist_solver_tests.proofs.again.push_all.Given as goal
+
+abbrev pub invariant-clauses : goal.invariant-clauses
+invariant-clauses l = l.set.variables ≡ 20

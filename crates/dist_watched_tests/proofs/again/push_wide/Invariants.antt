@@ -1,5 +1,0 @@
-use Rattle.dist_clause.specs.Formula.{IsClauseOver}
-use Rattle.dist_watched_tests.proofs.again.push_wide.Given as goal
-
-abbrev pub invariant-literals : goal.invariant-literals
-invariant-literals l = IsClauseOver 20 l.clause.items
