@@ -164,6 +164,7 @@ CHAPTERS = [
     ("Certificates", ["dist_cert"]),
     ("Files that are judged line by line", ["dist_judge", "dist_line_check"]),
     ("What certificates speak of, and what their claims mean", ["dist_subject", "dist_check"]),
+    ("The search behind a question", ["dist_search"]),
     ("What a question answers, and the lines that it writes", ["dist_solver", "dist_line_write"]),
     ("What a sweep may write, and how much that is", ["dist_sweep", "dist_strong", "dist_outdated", "dist_covering", "dist_challenge", "dist_budget"]),
     ("What the checker keeps", ["dist_check_group", "dist_check_state"]),
