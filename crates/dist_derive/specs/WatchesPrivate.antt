@@ -1,7 +1,7 @@
 -- What propagation by watches leaves, and what a log knows of it between two tests.
 use Rattle.std.specs.Prelude.{◌≡◌, ◌⊎◌, ℕ, Bool, false, ◌≤◌, List, [], length, take}
 use Rattle.std.specs.Prelude.{IsTrue}
-use Rattle.dist_clause.specs.Formula.{Literal, literal}
+use Rattle.dist_clause.specs.Formula.{Literal}
 use Rattle.dist_clause.specs.ClauseList.{clause_at}
 use Rattle.dist_derive.specs.ContainmentPrivate.{ContainsAll}
 use Rattle.dist_derive.specs.Propagation.{IsFalse}

@@ -4,9 +4,9 @@
 //! `follows` costs the literals of the hinted clauses and takes no memory. A test of newness under the assumptions of the
 //! one before it costs what the clause's own literals touch: the log keeps what its clauses give alone and under these
 //! assumptions, and finds each clause by two of its literals (`watches.rt`), so that it looks at a clause when one of the
-//! two becomes false. `is_new_within` is given the cone, and `are_new` marks as much of it as the lines of a question need.
-//! `is_new` begins from nothing and takes each clause; so do the others where memory is wanting. What stands here decides
-//! what a certificate proves: a change needs the checker's laws again.
+//! two becomes false. `are_new` marks as much of the cone as the lines of a question need. `is_new` begins from nothing and
+//! takes each clause; so does `are_new` where memory is wanting. What stands here decides what a certificate proves: a
+//! change needs the checker's laws again.
 #![tactic(auto)]
 
 mod cone;

@@ -1,16 +1,10 @@
-//! Whether a clause is new.
-//!
-//! `is_new` begins from nothing and takes each clause once. `is_new_within` begins from what the assumptions of the test
-//! before gave, and costs what the clause touches; where memory is wanting it begins from nothing too.
+//! Whether a clause is new, from nothing: each clause is taken once.
 
-ghost use Rattle.std.specs.Prelude.{◌≡◌, ◌≤◌, ◌↔◌, ◌-◌, ℕ, [], length, take, min, All, Contains, IsTrue};
+ghost use Rattle.std.specs.Prelude.{◌≡◌, ◌≤◌, ◌↔◌, ◌-◌, [], length, take, min, All, IsTrue};
 ghost use Rattle.dist_clause.specs.Formula.{IsClauseOver};
-ghost use Rattle.dist_derive.specs.ClauseLog.{inputs_of};
-ghost use Rattle.dist_derive.specs.Cone.{InCone};
 ghost use Rattle.dist_derive.specs.New.{IsNew, LeavesFirstUnset};
 
 use crate::true_literals::TrueLiterals;
-use crate::variable_set::VariableSet;
 use crate::{Log, Scratch};
 use dist_clause::Lit;
 
@@ -40,33 +34,6 @@ impl Log {
             return false;
         }
         self.adds(scratch, assumptions, clause, last)
-    }
-
-    /// Whether a clause is new under assumptions over all clauses, where the assumptions' cone is given.
-    pub fn is_new_within(
-        &mut self,
-        scratch: &mut Scratch,
-        cone: &VariableSet,
-        assumptions: &[Lit],
-        clause: &[Lit],
-    ) -> bool
-        requires assumptions { IsClauseOver self.old.variables assumptions.now }
-        requires clause { IsClauseOver self.old.variables clause.now }
-        requires scratch { scratch.old ≡ self.old.variables }
-        requires cone_variables { cone.now.variables ≡ self.old.variables }
-        requires cone { (v : ℕ) → Contains cone.now.members v ↔ InCone (inputs_of self.old) assumptions.now v }
-        ensures answer { IsTrue result ↔ IsNew self.old.clauses self.old.inputs assumptions.now clause.now }
-        ensures same { self.new ≡ self.old }
-        ensures ready { scratch.new ≡ scratch.old }
-    {
-        if !cone.has_clause(clause) {
-            return false;
-        }
-        let last = self.len();
-        match self.tested(assumptions, clause, last) {
-            Ok(answer) => answer,
-            Err(_) => self.adds(scratch, assumptions, clause, last),
-        }
     }
 
     /// Whether some true literals that hold the assumptions and the negations of a clause's literals but the first are

@@ -9,10 +9,10 @@ use Rattle.dist_clause.specs.Formula.{Literal, literal, negation}
 use Rattle.dist_clause.specs.ClauseList.{clause_at}
 use Rattle.dist_derive.specs.Propagation.{IsFalse, AllFalse, IsUnit}
 use Rattle.dist_derive.specs.Follows.{IsNumberOf}
-use Rattle.dist_derive.specs.Watches.{WatchLists, pair_of, list_of, IsPairKept, AreWatchesOf, IsFree, HasTrueOne, IsGuarded, StayFree}
+use Rattle.dist_derive.specs.Watches.{WatchLists, pair_of, list_of, HasOther, IsPairKept, AreWatchesOf, IsFree, HasTrueOne, IsGuarded, StayFree}
 use Rattle.dist_search.specs.Trail.{TrailState, IsGiven, literal_at}
 use Rattle.dist_search.specs.Guard.{AreGuarded, IsLevelled, Advances}
-use Rattle.dist_search.specs.GuardPrivate.{LiesIn, GoesOn, Looks}
+use Rattle.dist_search.specs.GuardPrivate.{GoesOn, IsMoved, Looks}
 use Rattle.dist_search.proofs.GuardLiterals.{front-itself, front-push, front-then, take-front, all_of_first, all_of_front, all_of-then}
 
 pub true_one_more : (trues more clause : List Literal) → All (Contains more) trues → HasTrueOne trues clause → HasTrueOne more clause
@@ -36,6 +36,36 @@ kept_free u v n kept seen f = ⊎_elim
     })
     (λ equal. absurd (f.apart equal.0))
     kept
+
+-- the two literals of a number are apart, whichever of them comes first
+pub other_apart : (pair : Literal × Literal) (l other : Literal) → HasOther pair l other → l ≢ other
+other_apart pair l other h = ⊎_elim
+    (λ e same. h.0 (e.0 ∙ (same ∙ sym e.1)))
+    (λ e same. h.0 (e.1 ∙ (sym same ∙ sym e.0)))
+    h.1
+
+-- the other literal of a number that is free is not false
+pub kept_not_false : (u : WatchLists) (seen : List Literal) (number : ℕ) (l other : Literal) → HasOther (pair_of u number) l other
+    → IsFree u seen number → ¬ IsFalse seen other
+kept_not_false u seen number l other h f x = ⊎_elim
+    (λ e. f.second_free (subst (λ (m : Literal). IsFalse seen m) (sym e.1) x))
+    (λ e. f.first_free (subst (λ (m : Literal). IsFalse seen m) (sym e.1) x))
+    h.1
+
+-- a number whose false literal has given way is free where the other one is not false
+pub moved_by : (u v : WatchLists) (trues seen : List Literal) (number : ℕ) (l : Literal) (moved : IsMoved u v trues number l)
+    → All (Contains trues) seen → (¬ IsFalse seen moved.kept) → IsFree v seen number
+moved_by u v trues seen number l moved among kept = record {
+  apart = λ e. moved.apart (sym (ap (λ (p : Literal × Literal). p.0) moved.is) ∙ (e ∙ ap (λ (p : Literal × Literal). p.1) moved.is));
+  first_free = λ x. kept (subst (λ (m : Literal). IsFalse seen m) (ap (λ (p : Literal × Literal). p.0) moved.is) x);
+  second_free = λ x. moved.free (All-contains (Contains trues) seen (negation moved.taken) among
+      (subst (λ (m : Literal). IsFalse seen m) (ap (λ (p : Literal × Literal). p.1) moved.is) x));
+}
+
+pub moved_free : (u v : WatchLists) (trues seen : List Literal) (number : ℕ) (l : Literal) → IsMoved u v trues number l
+    → All (Contains trues) seen → IsFree u seen number → IsFree v seen number
+moved_free u v trues seen number l moved among f = moved_by u v trues seen number l moved among
+    (kept_not_false u seen number l moved.kept moved.was f)
 
 -- ---- trails that grow
 
@@ -150,45 +180,40 @@ module _ (clauses : List (List Literal)) (cone : List ℕ) where
 
   -- ---- looks at a clause
 
-  module _ (number : ℕ) (is : IsNumberOf clauses number) where
-    -- nothing has moved, and the clause is guarded where it lies in the cone
-    pub looks_guarded : (w : WatchLists) (s : TrailState) → AreWatchesOf w clauses → length s.reasons ≡ length s.literals
-        → (LiesIn cone (clause_at clauses number) → IsGuarded w s.literals s.literals (clause_at clauses number) number)
-        → Looks clauses cone number w w s s true
-    looks_guarded w s watched each guarded = record {
+  module _ (number : ℕ) (is : IsNumberOf clauses number) (l : Literal) where
+    -- one of its literals is true
+    pub looks_true : (w : WatchLists) (s : TrailState) → AreWatchesOf w clauses → length s.reasons ≡ length s.literals
+        → HasTrueOne s.literals (clause_at clauses number) → Looks clauses cone number l w w s s true
+    looks_true w s watched each one = record {
       goes_on = goes_none w s watched each;
-      guarded = λ _. guarded;
+      guarded = λ _ _ _ _. inl one;
       conflict = λ e. absurd (true≢false e);
-      false_lists = λ l _. refl;
+      same_list = λ _. refl;
     }
 
     pub looks_false : (w : WatchLists) (s : TrailState) → AreWatchesOf w clauses → length s.reasons ≡ length s.literals
-        → AllFalse s.literals (clause_at clauses number) → Looks clauses cone number w w s s false
+        → AllFalse s.literals (clause_at clauses number) → Looks clauses cone number l w w s s false
     looks_false w s watched each all = record {
       goes_on = goes_none w s watched each;
       guarded = λ e. absurd (true≢false (sym e));
       conflict = λ _. (is, all);
-      false_lists = λ l _. refl;
+      same_list = λ _. refl;
     }
 
-    -- two literals that are not false are watched now
-    pub looks_watched : (u v : WatchLists) (s : TrailState) (a b : Literal) → a ≢ b → (¬ IsFalse s.literals a) → (¬ IsFalse s.literals b)
-        → pair_of v number ≡ (a, b) → ((n : ℕ) → 1 ≤ n → n ≢ number → (seen : List Literal) → IsFree u seen n → IsFree v seen n)
-        → ((l : Literal) → l ≢ a → l ≢ b → list_of v l ≡ list_of u l) → AreWatchesOf v clauses → length s.reasons ≡ length s.literals
-        → Looks clauses cone number u v s s true
-    looks_watched u v s a b apart free_a free_b pair others lists watched each =
-        let free : IsFree v s.literals number = record {
-          apart = λ e. apart (sym (ap (λ (p : Literal × Literal). p.0) pair) ∙ (e ∙ ap (λ (p : Literal × Literal). p.1) pair));
-          first_free = λ f. free_a (subst (λ (l : Literal). IsFalse s.literals l) (ap (λ (p : Literal × Literal). p.0) pair) f);
-          second_free = λ f. free_b (subst (λ (l : Literal). IsFalse s.literals l) (ap (λ (p : Literal × Literal). p.1) pair) f);
-        } in
+    -- another literal is watched in the place of the false one
+    pub looks_moved : (u v : WatchLists) (s : TrailState) (moved : IsMoved u v s.literals number l)
+        → ((n : ℕ) → 1 ≤ n → n ≢ number → (seen : List Literal) → IsFree u seen n → IsFree v seen n)
+        → ((m : Literal) → m ≢ moved.kept → m ≢ moved.taken → list_of v m ≡ list_of u m)
+        → AreWatchesOf v clauses → length s.reasons ≡ length s.literals → Looks clauses cone number l u v s s true
+    looks_moved u v s moved others lists watched each =
         let still = advances_none v s watched each in
         record {
           goes_on = record {
             advances = record {
               watches = watched;
               stay = λ seen n among one f. elim (cases_eq n number) [
-                | inl same ↦ subst (λ k. IsFree v seen k) (sym same) (free_fewer v s.literals seen number among free)
+                | inl same ↦ subst (λ k. IsFree v seen k) (sym same)
+                    (moved_free u v s.literals seen number l moved among (subst (λ k. IsFree u seen k) same f))
                 | inr other ↦ others n one other seen f
               ];
               same_variables = refl;
@@ -200,24 +225,25 @@ module _ (clauses : List (List Literal)) (cone : List ℕ) where
             };
             same_head = refl;
           };
-          guarded = λ _ _. inr free;
+          guarded = λ _ _ _ _. inr (inl moved);
           conflict = λ e. absurd (true≢false e);
-          false_lists = λ l f. lists l (λ e. free_a (subst (λ (m : Literal). IsFalse s.literals m) e f))
-              (λ e. free_b (subst (λ (m : Literal). IsFalse s.literals m) e f));
+          same_list = λ f. lists l (other_apart (pair_of u number) l moved.kept moved.was)
+              (λ e. moved.free (subst (λ (m : Literal). IsFalse s.literals m) e f));
         }
 
     -- the last literal that is not false is true now
-    pub looks_unit : (w : WatchLists) (a b : TrailState) (l : Literal) → AreWatchesOf w clauses → length a.reasons ≡ length a.literals
-        → IsUnit a.literals (clause_at clauses number) l → Contains cone l.variable
-        → b ≡ record a { literals = a.literals ++ l ∷ []; reasons = a.reasons ++ number ∷ [] } → Looks clauses cone number w w a b true
-    looks_unit w a b l watched each unit inside same = record {
+    pub looks_unit : (w : WatchLists) (a b : TrailState) (one : Literal) → AreWatchesOf w clauses → length a.reasons ≡ length a.literals
+        → IsUnit a.literals (clause_at clauses number) one → Contains cone one.variable
+        → b ≡ record a { literals = a.literals ++ one ∷ []; reasons = a.reasons ++ number ∷ [] } → Looks clauses cone number l w w a b true
+    looks_unit w a b one watched each unit inside same = record {
       goes_on = record {
-        advances = advances_given w a b number l watched each is unit inside same;
+        advances = advances_given w a b number one watched each is unit inside same;
         same_head = ap (λ (s : TrailState). s.head) same;
       };
-      guarded = λ _ _. inl (l, unit.member, subst (λ (s : TrailState). Contains s.literals l) (sym same) (Contains-push a.literals l));
+      guarded = λ _ _ _ _.
+          inl (one, unit.member, subst (λ (s : TrailState). Contains s.literals one) (sym same) (Contains-push a.literals one));
       conflict = λ e. absurd (true≢false e);
-      false_lists = λ m _. refl;
+      same_list = λ _. refl;
     }
 
   -- ---- what stays while a trail grows

@@ -8,6 +8,10 @@ use Rattle.std.proofs.lemmas.List.{take_all, take-take, take-append-le, take_mor
 use Rattle.std.proofs.lemmas.List.Elements.{All-weaker, All-contains, All-contains_itself, All-take}
 use Rattle.std.proofs.lemmas.Map.Made.{Contains-tail}
 use Rattle.dist_clause.specs.Formula.{Literal, literal, negation}
+use Rattle.dist_derive.specs.Propagation.{IsFalse, IsUnset, AllFalse, OthersFalse}
+use Rattle.dist_derive.specs.TrueLiterals.{HasTruth}
+use Rattle.dist_derive.specs.declared.true_literals.Truth.{Truth}
+use Rattle.dist_derive.specs.declared.true_literals.Truth.TheVariants.{True, False, Unset}
 
 beq-true : (a b : Bool) → beq a b ≡ true → a ≡ b
 beq-true true true e = refl
@@ -70,3 +74,16 @@ all_of_front xs ys front = subst (λ zs. All (Contains ys) zs) front (all_of_fir
 
 pub all_of-then : {X : Type 0} (xs ys zs : List X) → All (Contains ys) xs → All (Contains zs) ys → All (Contains zs) xs
 all_of-then xs ys zs first second = All-weaker (Contains ys) (Contains zs) (λ x e. All-contains (Contains zs) ys x second e) xs first
+
+-- all literals of a clause are false where one is, and the others are
+pub all_false_with : (trues clause : List Literal) (one : Literal) → IsFalse trues one → OthersFalse trues clause one → AllFalse trues clause
+all_false_with trues clause one false_one others = All-weaker (λ m. m ≢ one → IsFalse trues m) (IsFalse trues) (λ m other. elim (same_or_not m one) [
+  | inl same ↦ subst (λ (l : Literal). IsFalse trues l) (sym same) false_one
+  | inr apart ↦ other apart
+]) clause others
+
+-- a literal that is neither true nor false is unset
+pub unset_by : (trues : List Literal) (l : Literal) (truth : Truth) → HasTruth trues l truth → truth ≢ True → truth ≢ False → IsUnset trues l
+unset_by trues l True h not_true not_false = absurd (not_true refl)
+unset_by trues l False h not_true not_false = absurd (not_false refl)
+unset_by trues l Unset h not_true not_false = h

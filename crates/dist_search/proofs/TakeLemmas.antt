@@ -1,6 +1,6 @@
 -- A walk along the clauses that are found by a literal which is false now, and one along the trail.
-use Rattle.std.proofs.Common.{◌≡◌, ◌≢◌, ℕ, ◌⊎◌, ⊎_elim, inl, inr, ◌+◌, ◌-◌, ◌<◌, ◌≤◌, Bool, true, false, List, length, get_or, take, refl, ap, sym, subst}
-use Rattle.std.proofs.Common.{◌∙◌, arith, Result, Ok, Err, IfOk}
+use Rattle.std.proofs.Common.{◌≡◌, ◌≢◌, ℕ, ◌⊎◌, ⊎_elim, inl, inr, ◌+◌, ◌-◌, ◌<◌, ◌≤◌, true, false, List, length, get_or, take, refl, ap, sym, subst}
+use Rattle.std.proofs.Common.{◌∙◌, arith}
 use Rattle.std.specs.List.{Contains}
 use Rattle.std.proofs.lemmas.Bool.{cases_eq, true≢false}
 use Rattle.std.proofs.lemmas.List.{get_or_default, take_all}
@@ -11,9 +11,10 @@ use Rattle.dist_derive.specs.Propagation.{IsFalse}
 use Rattle.dist_derive.specs.Watches.{WatchLists, pair_in, pair_of, list_of, HasOther, HasNot, Pends, AreWatchesOf, IsFree, IsGuarded}
 use Rattle.dist_search.specs.Trail.{TrailState, literal_at}
 use Rattle.dist_search.specs.Guard.{AreGuarded, Advances}
-use Rattle.dist_search.specs.GuardPrivate.{LiesIn, IsTaking, GoesOn, Looks, LooksAgain}
+use Rattle.dist_search.specs.GuardPrivate.{LiesIn, IsTaking, GoesOn, IsMoved, Looks}
 use Rattle.dist_search.proofs.GuardLiterals.{same_or_not, negation-twice, take-front, take_item, all_of_first, all_of_front}
-use Rattle.dist_search.proofs.GuardLemmas.{free_fewer, literal_later, advances_none, advances_then, goes_none, goes_then, guarded_stays}
+use Rattle.dist_search.proofs.GuardLemmas.{other_apart, kept_not_false, moved_by, literal_later, guarded_stays}
+use Rattle.dist_search.proofs.GuardLemmas.{advances_none, advances_then, goes_none, goes_then}
 
 -- the literals of a number stay the same while lists change
 free_pairs : (v x : WatchLists) (seen : List Literal) (number : ℕ) → x.pairs ≡ v.pairs → IsFree v seen number → IsFree x seen number
@@ -29,21 +30,30 @@ guarded_pairs : (v x : WatchLists) (trues seen clause : List Literal) (number : 
     → IsGuarded x trues seen clause number
 guarded_pairs v x trues seen clause number pairs g = ⊎_elim (λ t. inl t) (λ f. inr (free_pairs v x seen number pairs f)) g
 
--- with one more true literal two literals stay free that are not its negation
+-- with one more true literal one stays free that is not its negation
+next_false : (trues : List Literal) (done : ℕ) (t l m : Literal) → done < length trues → t ≡ literal_at trues done → l ≡ negation t → m ≢ l
+    → (¬ IsFalse (take done trues) m) → ¬ IsFalse (take (done + 1) trues) m
+next_false trues done t l m within is opposite other free h = ⊎_elim
+    (λ g. free g)
+    (λ e. other (sym (ap negation e ∙ negation-twice m) ∙ sym opposite))
+    (Contains-push_cases (take done trues) t (negation m)
+    (subst (λ ts. Contains ts (negation m)) (take_item trues done t (literal 0 false) within is) h))
+
 free_next : (w : WatchLists) (trues : List Literal) (done number : ℕ) (t l : Literal) → done < length trues → t ≡ literal_at trues done → l ≡ negation t
     → (pair_of w number).0 ≢ l → (pair_of w number).1 ≢ l → IsFree w (take done trues) number → IsFree w (take (done + 1) trues) number
 free_next w trues done number t l within is opposite first second f = record {
   apart = f.apart;
-  first_free = λ h. still (pair_of w number).0 first f.first_free h;
-  second_free = λ h. still (pair_of w number).1 second f.second_free h;
+  first_free = next_false trues done t l (pair_of w number).0 within is opposite first f.first_free;
+  second_free = next_false trues done t l (pair_of w number).1 within is opposite second f.second_free;
 }
-  where
-    still : (m : Literal) → m ≢ l → (¬ IsFalse (take done trues) m) → ¬ IsFalse (take (done + 1) trues) m
-    still m other free h = ⊎_elim
-        (λ g. free g)
-        (λ e. other (sym (ap negation e ∙ negation-twice m) ∙ sym opposite))
-        (Contains-push_cases (take done trues) t (negation m)
-        (subst (λ ts. Contains ts (negation m)) (take_item trues done t (literal 0 false) within is) h))
+
+-- so does a number whose literal that became false has given way
+moved_next : (w v : WatchLists) (trues : List Literal) (done number : ℕ) (t l : Literal) → done < length trues → t ≡ literal_at trues done
+    → l ≡ negation t → IsMoved w v trues number l → IsFree w (take done trues) number → IsFree v (take (done + 1) trues) number
+moved_next w v trues done number t l within is opposite moved f = moved_by w v trues (take (done + 1) trues) number l moved
+    (all_of_first (done + 1) trues)
+    (next_false trues done t l moved.kept within is opposite (λ e. other_apart (pair_of w number) l moved.kept moved.was (sym e))
+    (kept_not_false w (take done trues) number l moved.kept moved.was f))
 
 -- the clauses that were looked at are guarded with the next true literal, the others without it and stand in the list still
 pub record ComesTo (clauses : List (List Literal)) (cone : List ℕ) (done : ℕ) (l : Literal) (start now : WatchLists) (before after : TrailState)
@@ -81,7 +91,7 @@ module _ (clauses : List (List Literal)) (cone : List ℕ) (done : ℕ) (t l : L
 
   module _ (u w v x : WatchLists) (a s b : TrailState) (place next here : ℕ) (h : ComesTo clauses cone done l u w a s place)
       (within : done < length s.literals) (is : t ≡ literal_at s.literals done) (below : place < length (list_of w l))
-      (there : here ≡ get_or (list_of w l) place 0) (looks : LooksAgain clauses cone here l w v s b true) (is_false : IsFalse s.literals l)
+      (there : here ≡ get_or (list_of w l) place 0) (looks : Looks clauses cone here l w v s b true) (is_false : IsFalse s.literals l)
       (pairs : x.pairs ≡ v.pairs) (watches : AreWatchesOf x clauses) (pending : (n : ℕ) → n ≢ here → Pends v l place n → Pends x l next n) where
     -- what was guarded before the look is after it
     moved : (k number : ℕ) → k ≤ length s.literals → 1 ≤ number → IsGuarded w s.literals (take k s.literals) (clause_at clauses number) number
@@ -94,20 +104,29 @@ module _ (clauses : List (List Literal)) (cone : List ℕ) (done : ℕ) (t l : L
     -- the clause that was looked at
     this : 1 ≤ here → here ≤ length clauses → LiesIn cone (clause_at clauses here)
         → IsGuarded x b.literals (take (done + 1) b.literals) (clause_at clauses here) here
-    this from to lies = ⊎_elim
-        (λ g. guarded_pairs v x b.literals (take (done + 1) b.literals) (clause_at clauses here) here pairs (⊎_elim
-        (λ t. inl t)
-        (λ f. inr (free_fewer v b.literals (take (done + 1) b.literals) here (all_of_first (done + 1) b.literals) f))
-        g))
-        (λ still. ⊎_elim
-        (λ g. moved (done + 1) here (omega (arith, within)) from g)
-        (λ g. moved (done + 1) here (omega (arith, within)) from (⊎_elim
-        (λ t. inl t)
-        (λ f. let not = subst (λ (y : WatchLists). HasNot (pair_of y here) l) still.0 still.2 f.apart in
-        inr (free_next w s.literals done here t l within is opposite not.0 not.1 f))
-        g.0))
-        (h.guarded here from to lies))
-        (looks.guarded refl from to lies)
+    this from to lies = ⊎_elim (λ g. before g) (λ g. pending_one g.0) (h.guarded here from to lies)
+      where
+        before : IsGuarded w s.literals (take (done + 1) s.literals) (clause_at clauses here) here
+            → IsGuarded x b.literals (take (done + 1) b.literals) (clause_at clauses here) here
+        before g = moved (done + 1) here (omega (arith, within)) from g
+
+        free_now : IsFree v (take (done + 1) s.literals) here → IsGuarded x b.literals (take (done + 1) b.literals) (clause_at clauses here) here
+        free_now f = inr (free_pairs v x (take (done + 1) b.literals) here pairs
+            (subst (λ seen. IsFree v seen here)
+            (sym (take-front (done + 1) s.literals b.literals (omega (arith, within)) looks.goes_on.advances.front)) f))
+
+        pending_one : IsGuarded w s.literals (take done s.literals) (clause_at clauses here) here
+            → IsGuarded x b.literals (take (done + 1) b.literals) (clause_at clauses here) here
+        pending_one g = elim g [
+          | inl t ↦ before (inl t)
+          | inr f ↦ elim (looks.guarded refl from to lies) [
+            | inl one ↦ inl one
+            | inr (inl m) ↦ free_now (moved_next w v s.literals done here t l within is opposite m f)
+            | inr (inr still) ↦
+                let not = subst (λ (y : WatchLists). HasNot (pair_of y here) l) still.0 still.2 f.apart in
+                before (inr (free_next w s.literals done here t l within is opposite not.0 not.1 f))
+          ]
+        ]
 
     -- the step itself
     passed : GoesOn clauses cone w x s b
@@ -140,32 +159,19 @@ module _ (clauses : List (List Literal)) (cone : List ℕ) (done : ℕ) (t l : L
     }
       where
         unmoved : (number : ℕ) → Pends w l place number → Pends v l place number
-        unmoved number p = subst (λ ns. (k : ℕ) × (place ≤ k) × (k < length ns) × (get_or ns k 0 ≡ number)) (sym (looks.false_lists l is_false)) p
+        unmoved number p = subst (λ ns. (k : ℕ) × (place ≤ k) × (k < length ns) × (get_or ns k 0 ≡ number)) (sym (looks.same_list is_false)) p
 
-if_ok_map : {X E : Type 0} (r : Result X E) (P Q : X → Type 0) → ((x : X) → P x → Q x) → IfOk r P → IfOk r Q
-if_ok_map (Ok x) P Q f h = f x h
-if_ok_map (Err e) P Q f h = tt
-
--- a look at a clause that is found by a literal, and none at another
-module _ (clauses : List (List Literal)) (cone : List ℕ) (number : ℕ) (l : Literal) where
-  pub looks_again : {E : Type 0} (u v : WatchLists) (a b : TrailState) (r : Result Bool E) → IfOk r (λ fine. Looks clauses cone number u v a b fine)
-      → IfOk r (λ fine. LooksAgain clauses cone number l u v a b fine)
-  looks_again u v a b r = if_ok_map r (λ fine. Looks clauses cone number u v a b fine) (λ fine. LooksAgain clauses cone number l u v a b fine)
-      (λ fine h. record {
-        goes_on = h.goes_on;
-        guarded = λ e from to lies. inl (h.guarded e lies);
-        conflict = h.conflict;
-        false_lists = h.false_lists;
-      })
-
-  pub passes_over : (w : WatchLists) (s : TrailState) → AreWatchesOf w clauses → length s.reasons ≡ length s.literals
-      → (1 ≤ number → number ≤ length clauses → HasNot (pair_of w number) l) → LooksAgain clauses cone number l w w s s true
-  passes_over w s watched each not = record {
-    goes_on = goes_none clauses cone w s watched each;
-    guarded = λ e from to lies. inr (refl, refl, not from to);
-    conflict = λ e. absurd (true≢false e);
-    false_lists = λ m _. refl;
-  }
+-- a clause that is not read: no literal of it that lies in the cone is found here
+pub passes_over : (clauses : List (List Literal)) (cone : List ℕ) (number : ℕ) (l : Literal) (w : WatchLists) (s : TrailState)
+    → AreWatchesOf w clauses → length s.reasons ≡ length s.literals
+    → (1 ≤ number → number ≤ length clauses → LiesIn cone (clause_at clauses number) → HasNot (pair_of w number) l)
+    → Looks clauses cone number l w w s s true
+passes_over clauses cone number l w s watched each not = record {
+  goes_on = goes_none clauses cone w s watched each;
+  guarded = λ e from to lies. inr (inr (refl, refl, not from to lies));
+  conflict = λ e. absurd (true≢false e);
+  same_list = λ _. refl;
+}
 
 -- the other literal that a clause is found by is one of its own
 pub other_in : (w : WatchLists) (clauses : List (List Literal)) (number : ℕ) (l other : Literal) → 1 ≤ number → HasOther (pair_of w number) l other

@@ -1,10 +1,10 @@
 -- What looks at clauses leave while a literal is taken.
-use Rattle.std.specs.Prelude.{◌≡◌, ◌-◌, ◌≤◌, ◌⊎◌, ℕ, Bool, false, List, length, take, All, Contains, IsTrue}
+use Rattle.std.specs.Prelude.{◌≡◌, ◌≢◌, ◌-◌, ◌≤◌, ◌⊎◌, ℕ, Bool, false, List, length, take, All, Contains, IsTrue}
 use Rattle.dist_clause.specs.Formula.{Literal}
 use Rattle.dist_clause.specs.ClauseList.{clause_at}
 use Rattle.dist_derive.specs.Propagation.{AllFalse, IsFalse}
 use Rattle.dist_derive.specs.Follows.{IsNumberOf}
-use Rattle.dist_derive.specs.Watches.{WatchLists, list_of, pair_of, HasNot, IsGuarded}
+use Rattle.dist_derive.specs.Watches.{WatchLists, list_of, pair_of, HasOther, HasNot, HasTrueOne}
 use Rattle.dist_search.specs.Trail.{TrailState, literal_at}
 use Rattle.dist_search.specs.Guard.{AreGuarded, Advances}
 
@@ -30,21 +30,22 @@ pub record GoesOn (clauses : List (List Literal)) (cone : List ℕ) (old new : W
 abbrev pub IsConflict : List (List Literal) → List Literal → ℕ → Type 0
 IsConflict clauses trues number = IsNumberOf clauses number × AllFalse trues (clause_at clauses number)
 
--- what a look at a clause leaves: it is guarded, where it lies in the cone, or else false
-pub record Looks (clauses : List (List Literal)) (cone : List ℕ) (number : ℕ) (old new : WatchLists)
-    (before after : TrailState) (fine : Bool) : Type 0 where
-  pub goes_on : GoesOn clauses cone old new before after
-  pub guarded : IsTrue fine → LiesIn cone (clause_at clauses number)
-      → IsGuarded new after.literals after.literals (clause_at clauses number) number
-  pub conflict : fine ≡ false → IsConflict clauses after.literals number
-  pub false_lists : (l : Literal) → IsFalse before.literals l → list_of new l ≡ list_of old l
+-- the false one of a clause's two watched literals has given way to one that is not false
+pub record IsMoved (old new : WatchLists) (trues : List Literal) (number : ℕ) (l : Literal) : Type 0 where
+  pub kept : Literal
+  pub taken : Literal
+  pub was : HasOther (pair_of old number) l kept
+  pub is : pair_of new number ≡ (kept, taken)
+  pub apart : kept ≢ taken
+  pub free : ¬ IsFalse trues taken
 
--- the same, where only clauses that are found by a literal are looked at
-pub record LooksAgain (clauses : List (List Literal)) (cone : List ℕ) (number : ℕ) (l : Literal) (old new : WatchLists)
+-- What a look at a clause leaves that is found by a false literal: where it lies in the cone, one of its literals is
+-- true, or it is found by another one now, or it is not found by this one at all; or else it is false.
+pub record Looks (clauses : List (List Literal)) (cone : List ℕ) (number : ℕ) (l : Literal) (old new : WatchLists)
     (before after : TrailState) (fine : Bool) : Type 0 where
   pub goes_on : GoesOn clauses cone old new before after
   pub guarded : IsTrue fine → 1 ≤ number → number ≤ length clauses → LiesIn cone (clause_at clauses number)
-      → IsGuarded new after.literals after.literals (clause_at clauses number) number
-      ⊎ ((new ≡ old) × (after ≡ before) × HasNot (pair_of new number) l)
+      → HasTrueOne after.literals (clause_at clauses number) ⊎ (IsMoved old new before.literals number l
+      ⊎ ((new ≡ old) × (after ≡ before) × HasNot (pair_of new number) l))
   pub conflict : fine ≡ false → IsConflict clauses after.literals number
-  pub false_lists : (m : Literal) → IsFalse before.literals m → list_of new m ≡ list_of old m
+  pub same_list : IsFalse before.literals l → list_of new l ≡ list_of old l

@@ -13,8 +13,8 @@ pub record LearnedClause : Type 0 where
   pub clause : List Literal
   pub hints : List ℕ
 
--- The clause of the first implication point behind a start: its first literal became false behind the start, all others
--- before it, and none of these later than the first of them.
+-- A clause with one literal that became false behind a start, its first one, as that of a first implication point has:
+-- all others became false before the start, and none of these later than the first of them.
 pub record IsPoint (trail : TrailState) (start : ℕ) (clause : List Literal) : Type 0 where
   pub first : Literal
   pub rest : List Literal
@@ -24,8 +24,8 @@ pub record IsPoint (trail : TrailState) (start : ℕ) (clause : List Literal) : 
   pub latest : (second : Literal) (more : List Literal) → rest ≡ second ∷ more → (place : ℕ)
       → IsFalse (take place trail.literals) second → AllFalse (take place trail.literals) more
 
--- A clause that a trail makes false follows from the log by hints, and by resolution alone, so that it is safe. Where
--- there are no decisions, the hints refute the assumptions.
+-- A clause that a trail makes false follows from the log by hints, and is safe where the log's clauses are. Where there
+-- are no decisions, the hints refute the assumptions.
 pub record IsTaught (log : ClauseLog) (assumptions : List Literal) (trail : TrailState) (learned : LearnedClause) :
     Type 0 where
   pub is_false : AllFalse trail.literals learned.clause

@@ -41,7 +41,8 @@ pub record IsWatching (clauses : List (List Literal)) (search : SearchState) : T
       → IsNumberOf clauses (slice_index search.singles (code_of l))
       × (clause_at clauses (slice_index search.singles (code_of l)) ≡ l ∷ [])
 
--- no clause is false yet: all are watched and guarded, where the literals that were taken are seen, and at each start
+-- no clause is known to be false: all are watched, and those within the cone are guarded, where the literals that were
+-- taken are seen, and at each start
 pub record IsGoing (clauses : List (List Literal)) (cone : List ℕ) (search : SearchState) : Type 0 where
   pub none : search.conflict ≡ 0
   pub all : search.watched ≡ length clauses

@@ -10,7 +10,7 @@ use Rattle.dist_search.specs.Guard.{AreGuarded, IsLevelled}
 use Rattle.dist_search.specs.Learned.{IsPoint}
 use Rattle.dist_search.specs.Search.{SearchState, IsWatching, IsGoing}
 
--- a clause is false, and the clauses are guarded at each start
+-- a clause is false, and the clauses within the cone are guarded at each start
 pub record IsAtConflict (clauses : List (List Literal)) (assumptions : List Literal) (cone : List ℕ)
     (search : SearchState) (clause : ℕ) : Type 0 where
   pub watching : IsWatching clauses search
@@ -21,7 +21,7 @@ pub record IsAtConflict (clauses : List (List Literal)) (assumptions : List Lite
   pub levelled : IsLevelled search.watches clauses cone search.trail
   pub going : (search.trail.starts ≡ []) ⊎ ((search.conflict ≡ 0) × (search.watched ≡ length clauses))
 
--- all true literals are taken, and no clause is false or unit
+-- all true literals are taken, and no clause within the cone is false or unit
 pub record IsAtRest (clauses : List (List Literal)) (assumptions : List Literal) (cone : List ℕ)
     (search : SearchState) : Type 0 where
   pub watching : IsWatching clauses search

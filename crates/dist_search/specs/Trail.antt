@@ -18,7 +18,7 @@ pub record TrailState : Type 0 where
 abbrev pub literal_at : List Literal → ℕ → Literal
 literal_at literals place = slice_index_or literals place (literal 0 false)
 
--- no two literals are of one variable, and decisions stand in their order, each at the end of what was taken then
+-- no two literals are of one variable, and decisions stand in their order, none behind what propagation has taken
 pub record IsOrdered (trail : TrailState) : Type 0 where
   pub over : IsClauseOver trail.variables trail.literals
   pub reasons : length trail.reasons ≡ length trail.literals

@@ -8,13 +8,14 @@ ghost use Rattle.std.specs.Prelude.{◌≡◌, ◌≤◌, length, take, Contains
 ghost use Rattle.dist_clause.specs.ClauseList.{clause_at};
 ghost use Rattle.dist_derive.specs.Propagation.{AllFalse};
 ghost use Rattle.dist_derive.specs.Follows.{IsNumberOf};
-ghost use Rattle.dist_derive.specs.Watches.{AreWatchesOf};
+ghost use Rattle.dist_clause.specs.Formula.{Literal};
+ghost use Rattle.dist_derive.specs.Watches.{AreWatchesOf, HasOther, pair_of};
 ghost use Rattle.dist_search.specs.Guard.{AreGuarded, Advances};
-ghost use Rattle.dist_search.specs.GuardPrivate.{IsTaking, GoesOn, IsConflict, Looks, LooksAgain};
+ghost use Rattle.dist_search.specs.GuardPrivate.{IsTaking, GoesOn, IsConflict, Looks};
 
 use crate::trail::Trail;
 use dist_clause::Lit;
-use dist_derive::{Log, VariableSet, Watches};
+use dist_derive::{Log, Truth, VariableSet, Watches};
 use std::alloc::AllocError;
 
 /// Takes all true literals, and makes true what clauses give; answers the number of a clause that is false then, if there is one.
@@ -78,7 +79,8 @@ fn take_literal(
     Ok(None)
 }
 
-/// Looks at a clause where it is found by a literal that is false now; answers whether it is not false.
+/// Looks at a clause where it is found by a literal that is false now; answers whether it is not false. It is not read where its
+/// other watched literal lies outside the cone.
 fn look_again(
     log: &Log,
     cone: &VariableSet,
@@ -90,10 +92,11 @@ fn look_again(
     requires same_variables { trail.old.variables ≡ log.now.variables }
     requires cone_variables { cone.now.variables ≡ log.now.variables }
     requires watches { AreWatchesOf watches.old log.now.clauses }
-    ensures looks { IfOk result (λ fine. LooksAgain log.now.clauses cone.now.members number literal watches.old watches.new
+    ensures looks { IfOk result (λ fine. Looks log.now.clauses cone.now.members number literal watches.old watches.new
         trail.old trail.new fine) }
     ensures same_variables { trail.new.variables ≡ trail.old.variables }
 {
+    log.keeps_invariant();
     trail.keeps_invariant();
     if number == 0 || number > log.len() {
         return Ok(true);
@@ -101,11 +104,14 @@ fn look_again(
     let Some(other) = watches.other(number, literal) else {
         return Ok(true);
     };
+    if !cone.contains(other.variable()) {
+        return Ok(true);
+    }
     look(log, cone, watches, trail, number, other)
 }
 
-/// Looks at a clause, first at one of its literals: finds it by two literals that are not false from now on, or makes its last one
-/// true, if that lies within the cone; answers whether it is not false.
+/// Looks at a clause, whose one watched literal is false, by the other one: finds it by a third one that is not false, or makes
+/// the other one true; answers whether the clause is not false.
 fn look(
     log: &Log,
     cone: &VariableSet,
@@ -120,24 +126,25 @@ fn look(
     requires from_one { 1 ≤ number }
     requires to_last { number ≤ length log.now.clauses }
     requires member { Contains (clause_at log.now.clauses number) first }
-    ensures looks { IfOk result (λ fine. Looks log.now.clauses cone.now.members number watches.old watches.new trail.old trail.new fine) }
+    requires within_cone { Contains cone.now.members first.variable }
+    ensures looks { (l : Literal) → HasOther (pair_of watches.old number) l first → IfOk result (λ fine. Looks log.now.clauses
+        cone.now.members number l watches.old watches.new trail.old trail.new fine) }
     ensures same_variables { trail.new.variables ≡ trail.old.variables }
 {
     log.keeps_invariant();
     trail.keeps_invariant();
-    if trail.trues().is_true(first) {
+    let truth = trail.trues().status(first);
+    if let Truth::True = truth {
         return Ok(true);
     }
     let clause = log.clause(number);
-    let Some(one) = trail.trues().free(clause, first) else {
-        return Ok(false);
-    };
-    if let Some(other) = trail.trues().other_free(clause, one) {
-        watches.watch(number, one, other)?;
+    if let Some(other) = trail.trues().other_free(clause, first) {
+        watches.watch(number, first, other)?;
         return Ok(true);
     }
-    if cone.contains(one.variable()) && trail.trues().is_unset(one) {
-        trail.push(one, number);
+    if let Truth::False = truth {
+        return Ok(false);
     }
+    trail.push(first, number);
     Ok(true)
 }

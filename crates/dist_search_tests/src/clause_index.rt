@@ -76,9 +76,8 @@ fn literals_have_places(rt: HostRuntime) {
     assert!(rt; literals_are_found(rt.alloc()));
 }
 
-/// Whether a clause is new under an assumption or not, as it is said, by the assumption and by its cone, and that cone has the first
-/// three variables.
-fn is_new_by_both(
+/// Whether a clause is new under an assumption or not, as it is said, and the assumption's cone has the first three variables.
+fn is_new_by_cone(
     log: &mut Log,
     scratch: &mut Scratch,
     cone: &mut VariableSet,
@@ -93,9 +92,7 @@ fn is_new_by_both(
     requires line { IsClauseOver 5 line.now }
 {
     log.mark_cone(cone, assumption);
-    log.is_new(scratch, assumption, line, 4) == is_new
-        && log.is_new_within(scratch, cone, assumption, line) == is_new
-        && cone.members() == [1, 2, 3].as_slice()
+    log.is_new(scratch, assumption, line, 4) == is_new && cone.members() == [1, 2, 3].as_slice()
 }
 
 /// The same with a new cone.
@@ -114,7 +111,7 @@ fn is_new_with_cone(
 {
     match VariableSet::new(alloc, 5) {
         Ok(mut cone) => {
-            let told = is_new_by_both(log, scratch, &mut cone, assumption, line, is_new);
+            let told = is_new_by_cone(log, scratch, &mut cone, assumption, line, is_new);
             drop(cone);
             told
         }

@@ -2,7 +2,7 @@ use Rattle.std.proofs.Common.{◌≡◌, ◌<◌, ◌-◌, Bool, length, ap, sym
 use Rattle.std.specs.List.{slice_index}
 use Rattle.dist_derive.specs.Propagation.{IsFalse}
 use Rattle.dist_derive.specs.Watches.{list_of}
-use Rattle.dist_search.specs.GuardPrivate.{LooksAgain}
+use Rattle.dist_search.specs.GuardPrivate.{Looks}
 use Rattle.dist_search.proofs.GuardLemmas.{goes_then}
 use Rattle.dist_search.proofs.TakeLemmas.{comes_none, comes_more, comes_end, taken_false, same_item}
 use Rattle.dist_search.proofs.propagation.take_literal.Goals as goal
@@ -39,7 +39,7 @@ found_false c = taken_false c.args.trail.now.literals c.loop-number.trail.litera
 
 -- the list is the same after the look at one of its clauses
 same_list : (c : In_ok-look_again) → list_of c.look_again.new.watches c.negated-literal.result ≡ list_of c.loop-number.watches c.negated-literal.result
-same_list c = c.in_ok-look_again.ensures.looks.false_lists c.negated-literal.result (found_false c)
+same_list c = c.in_ok-look_again.ensures.looks.same_list (found_false c)
 
 pub loop-number-preserved : goal.loop-number-preserved
 loop-number-preserved c =
@@ -59,7 +59,7 @@ loop-number-preserved c =
     c.pass-place.result c.in-Some.number h (omega (arith, placed looked, h.goes_on.advances.longer))
     (same_item a.literals s.literals done t (placed looked) c.requires.taking.there h.goes_on.advances.front)
     c.in-Some.ensures.some.0 c.in-Some.ensures.some.1
-    (subst (λ (fine : Bool). LooksAgain clauses cone c.in-Some.number l w v s b fine) c.if-not-branch.false c.in_ok-look_again.ensures.looks)
+    (subst (λ (fine : Bool). Looks clauses cone c.in-Some.number l w v s b fine) c.if-not-branch.false c.in_ok-look_again.ensures.looks)
     (found_false looked) c.pass-place.ensures.same_pairs
     (c.pass-place.ensures.watches clauses c.in_ok-look_again.ensures.looks.goes_on.advances.watches) c.pass-place.ensures.pending
 
