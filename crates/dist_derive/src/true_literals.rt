@@ -132,14 +132,40 @@ impl TrueLiterals {
     }
 
     /// A literal of a clause that is not false, other than this one.
-    pub fn other_free(&self, clause: &[Lit], one: Lit) -> Option<Lit>
+    pub(crate) fn other_free(&self, clause: &[Lit], one: Lit) -> Option<Lit>
         requires { IsClauseOver self.now.variables clause.now }
         ensures some { IfSome result (λ l. Contains clause.now l × (one ≢ l) × (¬ IsFalse self.now.literals l)) }
         ensures none { IfNone result (OthersFalse self.now.literals clause.now one) }
     {
-        for literal in clause {
-            if self.is_other_free(*literal, one) {
-                return Some(*literal);
+        match self.free_in(clause, one, 0) {
+            Some(found) => Some(found.1),
+            None => None,
+        }
+    }
+
+    /// The same, looked for from a place on, and before it then. With its place, where the next look can begin.
+    pub fn free_from(&self, clause: &[Lit], one: Lit, start: usize) -> Option<(usize, Lit)>
+        requires { IsClauseOver self.now.variables clause.now }
+        ensures some { IfSome result (λ found. Contains clause.now found.1 × (one ≢ found.1) × (¬ IsFalse self.now.literals found.1)) }
+        ensures none { IfNone result (OthersFalse self.now.literals clause.now one) }
+    {
+        let middle = start.min(clause.len());
+        match self.free_in(&clause[middle..], one, middle) {
+            Some(found) => Some(found),
+            None => self.free_in(&clause[..middle], one, 0),
+        }
+    }
+
+    /// A literal of some that is not false, other than this one, with its place, where theirs begin with this one.
+    fn free_in(&self, literals: &[Lit], one: Lit, first: usize) -> Option<(usize, Lit)>
+        requires { All (λ l. l.variable ≤ self.now.variables) literals.now }
+        ensures some { IfSome result (λ found. Contains literals.now found.1 × (one ≢ found.1) × (¬ IsFalse self.now.literals found.1)) }
+        ensures none { IfNone result (OthersFalse self.now.literals literals.now one) }
+    {
+        for place in 0..literals.len() {
+            let literal = literals[place];
+            if self.is_other_free(literal, one) {
+                return Some((first.saturating_add(place), literal));
             }
         }
         None

@@ -68,6 +68,8 @@ pub struct Watches {
     lists: Vec<Numbers>,
     /// By the number of the clause, from 1 on. Two equal literals: the clause isn't watched.
     pairs: Vec<(Lit, Lit)>,
+    /// By the number too: where a literal that is not false was found last in the clause.
+    places: Vec<u32>,
 }
 
 impl Model for Watches {
@@ -86,6 +88,7 @@ impl Watches {
         Watches {
             lists: Vec::new(alloc),
             pairs: Vec::new(alloc),
+            places: Vec::new(alloc),
         }
     }
 
@@ -100,6 +103,7 @@ impl Watches {
         Ok(Watches {
             lists,
             pairs: Vec::new(alloc),
+            places: Vec::new(alloc),
         })
     }
 
@@ -193,6 +197,31 @@ impl Watches {
             return Err(AllocError);
         }
         self.lists[code].add(number)
+    }
+
+    /// Where to begin to look for a literal of a clause that is not false: where one was found last. Of long clauses the literals
+    /// before it are mostly false still.
+    pub fn place(&self, number: u32) -> usize {
+        match self.places.get((number as usize).saturating_sub(1)) {
+            Some(place) => *place as usize,
+            None => 0,
+        }
+    }
+
+    /// Notes where such a literal was found. Where memory is wanting, the next look begins elsewhere.
+    pub fn note_place(&mut self, number: u32, place: usize)
+        ensures { self.new ≡ self.old }
+    {
+        let Ok(noted) = u32::try_from(place) else {
+            return;
+        };
+        let index = (number as usize).saturating_sub(1);
+        while self.places.len() <= index {
+            if self.places.push(0).is_err() {
+                return;
+            }
+        }
+        self.places[index] = noted;
     }
 
     /// Sets the two literals of a clause.

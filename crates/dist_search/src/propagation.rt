@@ -138,8 +138,10 @@ fn look(
         return Ok(true);
     }
     let clause = log.clause(number);
-    if let Some(other) = trail.trues().other_free(clause, first) {
-        watches.watch(number, first, other)?;
+    let start = watches.place(number);
+    if let Some(found) = trail.trues().free_from(clause, first, start) {
+        watches.note_place(number, found.0);
+        watches.watch(number, first, found.1)?;
         return Ok(true);
     }
     if let Truth::False = truth {

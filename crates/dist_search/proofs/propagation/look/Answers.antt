@@ -1,4 +1,6 @@
-use Rattle.std.proofs.Common.{◌≤◌, ◌-◌, [], ap, sym, subst, ◌∙◌, arith}
+use Rattle.dist_derive.specs.Watches.{WatchLists, pair_of, HasOther, AreWatchesOf}
+use Rattle.dist_search.specs.GuardPrivate.{Looks}
+use Rattle.std.proofs.Common.{true, ◌≤◌, ◌-◌, [], ap, sym, subst, ◌∙◌, arith}
 use Rattle.std.specs.List.{Contains}
 use Rattle.std.proofs.lemmas.List.Elements.{All-contains}
 use Rattle.dist_clause.specs.Formula.{Literal, IsClauseOver}
@@ -30,16 +32,19 @@ returns-in-True-clause-looks c = λ l _. looks_true c.args.log.now.clauses c.arg
 pub returns-in-Some-clause-looks : goal.returns-in-Some-clause-looks
 returns-in-Some-clause-looks c = λ l was.
     let clauses = c.args.log.now.clauses in
+    let cone = c.args.cone.now.members in
     let number = c.args.number in
-    let u = c.args.watches.now in
+    let u : WatchLists = c.note_place.new.self in
     let v = c.watch.new.self in
+    let s = c.args.trail.now in
     let first = c.args.first in
-    let other = c.in-Some.other in
-    looks_moved clauses c.args.cone.now.members number (c.requires.from_one, c.requires.to_last) l u v c.args.trail.now
+    let other = c.in-Some.found.1 in
+    subst (λ (w : WatchLists). Looks clauses cone number l w v s s true) c.note_place.ensures
+    (looks_moved clauses cone number (c.requires.from_one, c.requires.to_last) l u v s
     (record {
       kept = first;
       taken = other;
-      was = was;
+      was = subst (λ (w : WatchLists). HasOther (pair_of w number) l first) (sym c.note_place.ensures) was;
       is = c.in_ok-watch.ensures.pair;
       apart = c.in-Some.ensures.some.1;
       free = subst (λ (t : LiteralList). ¬ IsFalse t.literals other) c.trues-2.ensures c.in-Some.ensures.some.2;
@@ -47,8 +52,9 @@ returns-in-Some-clause-looks c = λ l was.
     (λ n from apart seen f. kept_free u v n (c.in_ok-watch.ensures.other_pairs n from apart) seen f)
     c.in_ok-watch.ensures.other_lists
     (c.in_ok-watch.ensures.watches clauses c.requires.member
-    (subst (λ clause. Contains clause other) c.clause-clause.ensures.value c.in-Some.ensures.some.0) c.requires.watches)
-    c.keeps_invariant-2.ensures.ordered.reasons
+    (subst (λ clause. Contains clause other) c.clause-clause.ensures.value c.in-Some.ensures.some.0)
+    (subst (λ (w : WatchLists). AreWatchesOf w clauses) (sym c.note_place.ensures) c.requires.watches))
+    c.keeps_invariant-2.ensures.ordered.reasons)
 
 pub returns-in-False-clause-looks : goal.returns-in-False-clause-looks
 returns-in-False-clause-looks c = λ l _. looks_false c.args.log.now.clauses c.args.cone.now.members c.args.number (c.requires.from_one, c.requires.to_last) l
@@ -57,7 +63,7 @@ returns-in-False-clause-looks c = λ l _. looks_false c.args.log.now.clauses c.a
     (subst (λ (t : LiteralList). IsFalse t.literals c.args.first) c.trues.ensures
     (subst (λ truth. HasTruth c.trues.result.now.literals c.args.first truth) c.in-False.is c.status-truth.ensures).1)
     (subst (λ clause. OthersFalse c.args.trail.now.literals clause c.args.first) c.clause-clause.ensures.value
-    (subst (λ (t : LiteralList). OthersFalse t.literals c.clause-clause.result.now c.args.first) c.trues-2.ensures c.in_default-other_free.ensures.none)))
+    (subst (λ (t : LiteralList). OthersFalse t.literals c.clause-clause.result.now c.args.first) c.trues-2.ensures c.in_default-free_from.ensures.none)))
 
 pub returns-clause-looks : goal.returns-clause-looks
 returns-clause-looks c = λ l _.
@@ -69,6 +75,6 @@ returns-clause-looks c = λ l _.
       unset = subst (λ (t : LiteralList). IsUnset t.literals first) c.trues.ensures
           (unset_by c.trues.result.now.literals first c.status-truth.result c.status-truth.ensures c.in_default.not-True c.in_default-truth.not-False);
       others = subst (λ clause. OthersFalse c.args.trail.now.literals clause first) c.clause-clause.ensures.value
-          (subst (λ (t : LiteralList). OthersFalse t.literals c.clause-clause.result.now first) c.trues-2.ensures c.in_default-other_free.ensures.none);
+          (subst (λ (t : LiteralList). OthersFalse t.literals c.clause-clause.result.now first) c.trues-2.ensures c.in_default-free_from.ensures.none);
     })
     c.requires.within_cone c.push.ensures

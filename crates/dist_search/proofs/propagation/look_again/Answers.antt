@@ -38,7 +38,7 @@ returns-then-not-contains-clause-looks c =
     let cone = c.args.cone.now.members in
     passes_over clauses cone c.args.number c.args.literal c.args.watches.now c.args.trail.now c.requires.watches c.keeps_invariant-2.ensures.ordered.reasons
     (λ from to lies.
-        let member = other_in c.args.watches.now clauses c.args.number c.args.literal c.in-Some.other from c.in-Some.ensures.some c.requires.watches in
-        let inside = All-contains (λ (l : Literal). Contains cone l.variable) (clause_at clauses c.args.number) c.in-Some.other lies member in
-        absurd (true≢false (sym (c.contains.ensures.1 (subst (λ v. Contains cone v) (sym c.variable.ensures.value) inside))
-        ∙ c.if-not-contains.true)))
+    let member = other_in c.args.watches.now clauses c.args.number c.args.literal c.in-Some.other from c.in-Some.ensures.some c.requires.watches in
+    let inside = All-contains (λ (l : Literal). Contains cone l.variable) (clause_at clauses c.args.number) c.in-Some.other lies member in
+    absurd (true≢false (sym (c.contains.ensures.1 (subst (λ v. Contains cone v) (sym c.variable.ensures.value) inside))
+    ∙ c.if-not-contains.true)))
