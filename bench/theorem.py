@@ -1,8 +1,8 @@
 #!/usr/bin/env python3
 """Holds docs/THEOREM.md against the sources. A link [`NAME`] goes to the line that defines NAME, or the field of a record, or the
 clause of a function. Each sentence has a link, each clause of the top call is linked, and what the sentences of the theorem
-link is reached by its clauses, but for laws. The last table counts the definitions that its links reach; there are no more than
-GOALS says, and no two of one name among them.
+link is reached by its clauses, but for laws. The last table counts the definitions that its links reach; there are no more of
+them, and they have no more lines, than GOALS says, and no two of one name are among them.
 Usage: theorem.py [--write]    --write puts in the lines and the counts of today; what else is wrong is told"""
 import os
 import re
@@ -20,8 +20,9 @@ USED = re.compile(r"\[`([^`\]]+)`\](?![:(])")
 LINK = re.compile(r"^\[`([^`\]]+)`\]: \.\./(\S+?)#L(\d+)$")
 ROW = re.compile(r"^(\| .* \| )([\d,]+)( \|)$")
 CLAUSE = re.compile(r"^ *ensures (\w+) \{")
-# What a printed line rests on: the most definitions that a row of the table may have, by how the row begins.
-GOALS = {"| `strong` |": 160, "| all of these": 400}
+# What a printed line rests on: the most definitions that a row of the table may have, and the most lines of these without
+# comments, by how the row begins. The lines are those of today, and only ever lowered: 1,300 is wanted for all commands.
+GOALS = {"| `strong` |": (160, 539), "| all of these": (400, 1359)}
 
 
 def lines_of(path: str) -> list[str]:
@@ -81,6 +82,11 @@ def starts_of(text: str, links: dict[str, tuple[str, int]]) -> list[tuple[str, s
     return [(path, name) for path, name in named if path.endswith(".antt") and name in load(path).lines]
 
 
+def count_lines(reached: dict[tuple[str, str], int]) -> int:
+    """How many lines these definitions have, without comments and empty lines."""
+    return sum(len(load(path).bodies[name].splitlines()) for path, name in reached)
+
+
 def names_twice(starts: list[tuple[str, str]]) -> Iterator[str]:
     """The names that two of the definitions have which these reach."""
     homes: dict[str, set[str]] = {}
@@ -126,13 +132,16 @@ def main(words: list[str]) -> int:
                 changed.append(f"{said[1]} stands at line {number} of {said[2]}, not at {said[3]}")
                 lines[at] = line.replace(f"#L{said[3]}", f"#L{number}")
         elif row:
-            count = f"{len(all_reached(starts_of(line, links) or [TOP_CALL])):,}"
+            reached = all_reached(starts_of(line, links) or [TOP_CALL])
+            count = f"{len(reached):,}"
             if count != row[2]:
                 changed.append(f"line {at + 1}: {count} definitions, not {row[2]}")
                 lines[at] = f"{row[1]}{count}{row[3]}"
-            for begin, most in GOALS.items():
+            for begin, (most, most_lines) in GOALS.items():
                 if line.startswith(begin):
-                    wrong += [f"line {at + 1}: more than {most} definitions"] if int(count.replace(",", "")) > most else []
+                    wrong += [f"line {at + 1}: more than {most} definitions"] if len(reached) > most else []
+                    size = count_lines(reached)
+                    wrong += [f"line {at + 1}: {size} lines of definitions, more than {most_lines}"] if size > most_lines else []
                     wrong += names_twice(starts_of(line, links))
     if not wrong:
         wrong += faults_of(lines, links)
