@@ -313,6 +313,15 @@ def one_of(n):
     return "Depends: " + " | ".join(f"w{k:06}" for k in range(n)) + "\n"
 
 
+def left_open(n):
+    """Four pigeons in three holes, a package that needs them and one of n others, and forty that need this one in either of two ways: the quick phase
+    gives each of them up."""
+    holes = "".join(stanza(f"g{k}h{j}", more=f"Provides: h{j}\nConflicts: h{j}\n") for k in range(4) for j in range(3))
+    asks = [" | ".join(f"g{k}h{j}" for j in range(3)) for k in range(4)] + [" | ".join(f"w{k:06}" for k in range(n))]
+    return holes + stanza("zhard", more="Depends: " + ", ".join(asks) + "\n") + loose(n) + "".join(
+        stanza(f"p{k:02}", more=f"Depends: zhard | v{k:02}\n") + stanza(f"v{k:02}", more="Depends: zhard\n") for k in range(40))
+
+
 def pairs(n):
     """A package with so many items of two alternatives each, and these."""
     asks = ", ".join(f"a{k:06} | b{k:06}" for k in range(n))
@@ -473,6 +482,7 @@ ROWS = {
     "so many packages that need, through others, one with one item of as many alternatives": (10_000, lambda n: strong(far_hub(n, one_of(n), loose(n)))),
     "so many packages that need, through others, one with as many equal items": (10_000, lambda n: strong(
         far_hub(n, "Depends: " + ", ".join(["x"] * n) + "\n", stanza("x")))),
+    "forty packages that need one without an installation, which has an item of so many alternatives": (16_000, lambda n: strong(left_open(n))),
     "a package with so many items of two alternatives": (8_000, lambda n: strong(pairs(n))),
     "so many packages beside an essential one with one item of as many alternatives": (10_000, lambda n: strong(
         stanza("e", more="Essential: yes\n" + one_of(n)) + loose(n), "--essential")),
