@@ -3,6 +3,7 @@ pub mod OccurrenceLemmas
 pub mod MarkedLemmas
 pub mod ValuedLemmas
 pub mod LiteralLemmas
+pub mod FalsesLemmas
 pub mod OutcomeLemmas
 pub mod DenyLemmas
 pub mod FarLemmas

@@ -4,7 +4,7 @@ use Rattle.std.proofs.Common.{refl, ap, sym, ◌∙◌, subst, inl, inr, arith, 
 use Rattle.std.specs.List.{Contains}
 use Rattle.std.proofs.lemmas.Bool.{cases_eq, false≢true, false_from_ne_true}
 use Rattle.std.proofs.lemmas.List.{same_lists, length-set, length-replicate, get_or-replicate, get_or-set_same, get_or-set_other, get_or_default}
-use Rattle.std.proofs.lemmas.List.{get_or_append_left, get_or_push, length_push}
+use Rattle.std.proofs.lemmas.List.{length_push}
 use Rattle.std.proofs.lemmas.List.Quantifiers.{all_pairs_push}
 use Rattle.std.proofs.lemmas.List.Elements.{All-push, All-weaker, Contains-push, Contains-push_cases, Contains-append_left}
 use Rattle.std.proofs.lemmas.List.Sums.{sum_by-set, sum_by-cons, get_or-le-sum_by}
@@ -37,10 +37,6 @@ all_false marks none =
 unmarked_counts : (b : Bool) → b ≡ false → ◌≡◌ {A = ℕ} (cond (not b) 1 0) 1
 unmarked_counts true e = absurd (false≢true (sym e))
 unmarked_counts false e = refl
-
-pub marked_counts : (b : Bool) → b ≡ true → ◌≡◌ {A = ℕ} (cond (not b) 1 0) 0
-marked_counts true e = refl
-marked_counts false e = absurd (false≢true e)
 
 pub is_room : (marks : List Bool) (members : List ℕ) (capacity v : ℕ) → AreMarked marks members capacity → 1 ≤ v → v ≤ length marks → (¬ Contains members v)
     → length members < length marks
@@ -78,45 +74,6 @@ AreMarked-add marks members capacity more v h larger from to fresh =
           let moved = sum_by-set (λ b. cond (not b) 1 0) marks (v - 1) true false (omega arith) in
           let at_one = unmarked_counts (get_or marks (v - 1) false) value in
           omega (arith, h.counted, length_push members v);
-      room = omega (arith, h.room);
-    }
-
--- one member less, the last one
-pub AreMarked-less : (marks : List Bool) (members : List ℕ) (capacity v : ℕ) → AreMarked marks (members ++ v ∷ []) capacity
-    → AreMarked (set marks (v - 1) false) members capacity
-AreMarked-less marks members capacity v h =
-    let long = length-set marks (v - 1) false in
-    let pushed = length_push members v in
-    let range = h.in_range (length members) v (omega arith) in
-    let last : get_or (members ++ v ∷ []) (length members) v ≡ v = get_or_push members v v (length members) refl in
-    let from : 1 ≤ v = subst (λ u. 1 ≤ u) last range.0 in
-    let to : v ≤ length marks = subst (λ u. u ≤ length marks) last range.1 in
-    let out : ¬ Contains members v = λ m. h.distinct m.0 (length members) v m.1 (omega arith)
-    (get_or_append_left members (v ∷ []) v m.0 m.1 ∙ (m.2 ∙ sym last)) in
-    record {
-      marked = λ w w_from w_to.
-          elim (cases_eq w v) [
-            | inl same ↦ (
-              λ e. absurd (false≢true (sym (ap (λ u. value_of (set marks (v - 1) false) u) same ∙ value_of-set_same marks v false from to) ∙ e)),
-              λ m. absurd (out (subst (λ u. Contains members u) same m)),
-            )
-            | inr other ↦
-                let kept = value_of-set_other marks v w false from w_from other in
-                let was = h.marked w w_from (omega (arith, w_to, long)) in (
-                  λ e. ⊎_elim (λ x. x) (λ x. absurd (other (sym x))) (Contains-push_cases members v w (was.0 (sym kept ∙ e))),
-                  λ m. kept ∙ was.1 (Contains-append_left members (v ∷ []) w m),
-                )
-          ];
-      in_range = λ k d within.
-          let r = subst (λ u. (1 ≤ u) × (u ≤ length marks)) (get_or_append_left members (v ∷ []) d k within) (h.in_range k d (omega arith)) in
-          (r.0, omega (arith, r.1));
-      distinct = λ i j d before within e. h.distinct i j d before (omega arith)
-          (get_or_append_left members (v ∷ []) d i (omega arith) ∙ (e ∙ sym (get_or_append_left members (v ∷ []) d j within)));
-      counted =
-          let value : get_or marks (v - 1) false ≡ true = (h.marked v from to).1 (Contains-push members v) in
-          let moved = sum_by-set (λ b. cond (not b) 1 0) marks (v - 1) false false (omega arith) in
-          let at_none = marked_counts (get_or marks (v - 1) false) value in
-          omega (arith, h.counted, pushed);
       room = omega (arith, h.room);
     }
 

@@ -1,8 +1,8 @@
--- True literals, kept as a set of variables and the value of each of them.
-use Rattle.std.specs.Prelude.{◌≡◌, ◌≤◌, ℕ, Bool, List, length, map, All, Contains}
-use Rattle.dist_clause.specs.Formula.{Literal, literal, value_of}
+-- True literals, kept as a list and a table of the false ones.
+use Rattle.std.specs.Prelude.{◌≡◌, ◌<◌, ◌≤◌, ◌↔◌, ℕ, Bool, true, false, List, length, All, Contains, slice_index_or}
+use Rattle.dist_clause.specs.Formula.{Literal, IsClauseOver}
 use Rattle.dist_base.specs.declared.TheConstants.{MAX_VARIABLES}
-use Rattle.dist_derive.specs.VariableSet.{VariableList}
+use Rattle.dist_derive.specs.OccurrencesPrivate.{code_of}
 use Rattle.dist_derive.specs.Propagation.{IsFalse, IsUnset, AllFalse, IsUnit}
 use Rattle.dist_derive.specs.declared.true_literals.Truth.{Truth}
 use Rattle.dist_derive.specs.declared.true_literals.Truth.TheVariants.{True, False, Unset}
@@ -14,14 +14,13 @@ pub record LiteralList : Type 0 where
   pub variables : ℕ
   pub literals : List Literal
 
--- each variable of the list with its value
-abbrev pub valued : List Bool → List ℕ → List Literal
-valued signs members = map (λ v. literal v (value_of signs v)) members
-
--- each variable has a value, and those of the list are variables of clauses
-pub record IsValued (signs : List Bool) (touched : VariableList) : Type 0 where
-  pub each : length signs ≡ touched.variables
-  pub stated : All (λ v. v ≤ MAX_VARIABLES) touched.members
+-- at the code of each literal stands whether it is false; there is room for all variables
+pub record AreFalses (variables : ℕ) (literals : List Literal) (falses : List Bool) (capacity : ℕ) : Type 0 where
+  pub told : (l : Literal) → 1 ≤ l.variable → l.variable ≤ variables
+      → (code_of l < length falses) × ((slice_index_or falses (code_of l) false ≡ true) ↔ IsFalse literals l)
+  pub over : IsClauseOver variables literals
+  pub stated : All (λ l. l.variable ≤ MAX_VARIABLES) literals
+  pub room : variables ≤ capacity
 
 -- what a literal is under the true ones
 abbrev pub HasTruth : List Literal → Literal → Truth → Type 0

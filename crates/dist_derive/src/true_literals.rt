@@ -1,14 +1,14 @@
 //! Literals that are true for now, and what clauses are under them.
 
-ghost use Rattle.std.specs.Prelude.{◌≡◌, ◌≢◌, ◌<◌, ◌≤◌, ◌↔◌, false, [], ◌∷◌, ◌++◌, List, length, map, take, All, Contains, IfOk, IfSome, IfNone, IsTrue, slice_index_or};
+ghost use Rattle.std.specs.Prelude.{◌≡◌, ◌≢◌, ◌-◌, ◌<◌, ◌≤◌, ◌↔◌, false, [], ◌∷◌, ◌++◌, List, length, map, take, All, Contains, IfOk, IfSome, IfNone, IsTrue, slice_index_or};
 ghost use Rattle.dist_clause.specs.Formula.{Literal, negation, IsClauseOver};
 ghost use Rattle.dist_derive.specs.Propagation.{IsFalse, IsUnset, AllFalse, OthersFalse, IsConsistent};
 ghost use Rattle.dist_derive.specs.AssumePrivate.{Assumes, AssumesAll};
 ghost use Rattle.dist_derive.specs.ContainmentPrivate.{ContainsAll};
 
-use crate::variable_set::VariableSet;
+use crate::occurrences::code_of;
 use dist_base::MAX_VARIABLES;
-use dist_clause::{Assignment, Lit};
+use dist_clause::Lit;
 use std::alloc::{AllocError, Global};
 use std::marker::Model;
 
@@ -33,19 +33,21 @@ pub enum Outcome {
 /// Literals that are true for now, never a literal together with its negation.
 #[derive(Drop)]
 pub struct TrueLiterals {
-    touched: VariableSet,
-    /// The value of each touched variable.
-    signs: Assignment,
+    variables: u32,
+    literals: Vec<Lit>,
+    /// By the code of a literal: whether it is false.
+    falses: Vec<bool>,
 }
 
 impl Model for TrueLiterals {
-    ghost use Rattle.dist_derive.specs.TrueLiterals.{LiteralList, IsValued, valued};
+    ghost use Rattle.std.specs.Vec.{vec_capacity};
+    ghost use Rattle.dist_derive.specs.TrueLiterals.{LiteralList, AreFalses};
 
     ghost Value = { LiteralList };
 
-    ghost view = { λ a. record { variables = a.touched.variables; literals = valued a.signs a.touched.members } };
+    ghost view = { λ a. record { variables = a.variables; literals = a.literals.items } };
 
-    ghost invariant = { λ a. IsValued a.signs a.touched };
+    ghost invariant = { λ a. AreFalses a.variables a.literals.items a.falses.items (vec_capacity a.literals) };
 }
 
 impl TrueLiterals {
@@ -55,9 +57,14 @@ impl TrueLiterals {
     pub fn new(alloc: Global, variables: u32) -> Result<TrueLiterals, AllocError>
         ensures { IfOk result (λ t. t ≡ record { variables = variables; literals = [] }) }
     {
-        let touched = VariableSet::new(alloc, variables)?;
-        let signs = Assignment::new(alloc, variables)?;
-        Ok(TrueLiterals { touched, signs })
+        let literals = Vec::with_capacity(alloc, variables as usize)?;
+        let mut falses = Vec::new(alloc);
+        falses.resize(2 * variables as usize + 2, false)?;
+        Ok(TrueLiterals {
+            variables,
+            literals,
+            falses,
+        })
     }
 
     /// No literal, over no variables. It takes no memory.
@@ -65,8 +72,9 @@ impl TrueLiterals {
         ensures { result ≡ record { variables = 0; literals = [] } }
     {
         TrueLiterals {
-            touched: VariableSet::empty(alloc),
-            signs: Assignment::empty(alloc),
+            variables: 0,
+            literals: Vec::new(alloc),
+            falses: Vec::new(alloc),
         }
     }
 
@@ -75,13 +83,13 @@ impl TrueLiterals {
         requires { literal.variable ≤ self.now.variables }
         ensures { HasTruth self.now.literals literal result }
     {
-        let variable = literal.variable();
-        if !self.touched.contains(variable) {
-            Truth::Unset
-        } else if self.signs.value(variable) == literal.positive() {
+        self.keeps_invariant();
+        if self.is_false(literal) {
+            Truth::False
+        } else if self.is_false(literal.negated()) {
             Truth::True
         } else {
-            Truth::False
+            Truth::Unset
         }
     }
 
@@ -90,7 +98,7 @@ impl TrueLiterals {
         requires { literal.variable ≤ self.now.variables }
         ensures { IsTrue result → Contains self.now.literals literal }
     {
-        matches!(self.status(literal), Truth::True)
+        self.is_false(literal.negated())
     }
 
     /// Whether all literals are true.
@@ -111,10 +119,7 @@ impl TrueLiterals {
         requires { literal.variable ≤ self.now.variables }
         ensures { IsTrue result ↔ IsFalse self.now.literals literal }
     {
-        match self.status(literal) {
-            Truth::False => true,
-            Truth::True | Truth::Unset => false,
-        }
+        self.falses[code_of(literal) as usize]
     }
 
     /// A literal of a clause that is not false: this one, if it isn't.
@@ -190,8 +195,7 @@ impl TrueLiterals {
         ensures over_variables { IsClauseOver self.now.variables self.now.literals }
         ensures stated { result ≤ MAX_VARIABLES }
     {
-        self.touched.keeps_invariant();
-        self.touched.len()
+        self.literals.len()
     }
 
     /// The literal at a place, from 0 on, in the order in which they became true.
@@ -199,8 +203,7 @@ impl TrueLiterals {
         requires { place < length self.now.literals }
         ensures { result ≡ slice_index_or self.now.literals place result }
     {
-        let variable = self.touched.get(place);
-        Lit::new(variable, self.signs.value(variable))
+        self.literals[place]
     }
 
     /// Makes an unset literal true.
@@ -210,9 +213,8 @@ impl TrueLiterals {
         ensures added { self.new ≡ record self.old { literals = self.old.literals ++ literal ∷ [] } }
         ensures few { length self.new.literals ≤ self.new.variables }
     {
-        let variable = literal.variable();
-        self.touched.add(variable);
-        self.signs.set(variable, literal.positive());
+        self.literals.push_reserved(literal);
+        self.falses[code_of(literal.negated()) as usize] = true;
     }
 
     /// Makes the negation of each literal of a clause true, where no literal is true before.
@@ -273,7 +275,15 @@ impl TrueLiterals {
         ensures answer { IsTrue result ↔ IsUnset self.now.literals literal }
         ensures consistent { IsConsistent self.now.literals }
     {
-        !self.touched.contains(literal.variable())
+        self.keeps_invariant();
+        !self.is_false(literal) && !self.is_false(literal.negated())
+    }
+
+    /// No literal is true together with its negation. Does nothing.
+    fn keeps_invariant(&self)
+        ensures { IsConsistent self.now.literals }
+    {
+        self.literals.len();
     }
 
     /// What a clause is under the true literals.
@@ -295,14 +305,26 @@ impl TrueLiterals {
     pub fn truncate(&mut self, len: usize)
         ensures { self.new ≡ record self.old { literals = take len self.old.literals } }
     {
-        self.touched.truncate(len);
+        while self.literals.len() > len {
+            self.pop();
+        }
+    }
+
+    /// Makes the last true literal unset, where there is one.
+    fn pop(&mut self)
+        ensures { self.new ≡ record self.old { literals = take (length self.old.literals - 1) self.old.literals } }
+    {
+        let Some(literal) = self.literals.pop() else {
+            return;
+        };
+        self.falses[code_of(literal.negated()) as usize] = false;
     }
 
     /// Makes all literals unset.
     pub fn clear(&mut self)
         ensures { self.new ≡ record self.old { literals = [] } }
     {
-        self.touched.clear();
+        self.truncate(0);
     }
 }
 

@@ -1,6 +1,6 @@
 //! Sets of variables that are emptied in time proportional to their members.
 
-ghost use Rattle.std.specs.Prelude.{◌≡◌, ◌≢◌, ◌<◌, ◌≤◌, ◌↔◌, ◌⊎◌, true, false, [], ◌∷◌, ◌++◌, ℕ, Bool, length, replicate, take, ◌-◌, All, AllPairs, Contains, IfOk, IsTrue, OnOk, slice_index};
+ghost use Rattle.std.specs.Prelude.{◌≡◌, ◌≢◌, ◌<◌, ◌≤◌, ◌↔◌, ◌⊎◌, true, false, [], ◌∷◌, ◌++◌, ℕ, Bool, length, replicate, All, AllPairs, Contains, IfOk, IsTrue, OnOk, slice_index};
 ghost use Rattle.dist_clause.specs.Formula.{value_of, IsTrueLiteral, MakesTrue};
 ghost use Rattle.dist_derive.specs.Cone.{IsClosedUnder};
 ghost use Rattle.dist_derive.specs.VariableSet.{GivesTrue};
@@ -278,25 +278,6 @@ impl VariableSet {
         ensures { (value : ℕ → Bool) → GivesTrue value self.now.members → IsTrue result ↔ MakesTrue value clause.now }
     {
         clause.iter().any(|l| self.makes_true(*l))
-    }
-
-    /// Takes the members from a place on out.
-    pub(crate) fn truncate(&mut self, len: usize)
-        ensures { self.new ≡ record self.old { members = take len self.old.members } }
-    {
-        while self.len() > len {
-            self.pop();
-        }
-    }
-
-    /// Takes the last member out, where there is one.
-    fn pop(&mut self)
-        ensures { self.new ≡ record self.old { members = take (length self.old.members - 1) self.old.members } }
-    {
-        let Some(variable) = self.members.pop() else {
-            return;
-        };
-        self.marks.set(variable, false);
     }
 
     /// Takes all members out.

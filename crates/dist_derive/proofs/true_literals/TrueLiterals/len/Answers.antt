@@ -1,23 +1,19 @@
-use Rattle.std.proofs.Common.{◌≤◌, subst, sym}
-use Rattle.dist_clause.specs.Formula.{IsClauseOver}
+use Rattle.std.proofs.Common.{ap, arith}
 use Rattle.dist_base.specs.declared.TheConstants.{MAX_VARIABLES}
 use Rattle.dist_derive.specs.TrueLiterals.{LiteralList}
-use Rattle.dist_derive.proofs.ValuedLemmas.{valued-over}
-use Rattle.dist_derive.proofs.FewLemmas.{few_from_one}
+use Rattle.dist_derive.proofs.HintLaws.{over_few}
 use Rattle.dist_derive.proofs.true_literals.TrueLiterals.len.Goals as goal
 
-pub returns-clause-over_variables : goal.returns-clause-over_variables
-returns-clause-over_variables c =
-    let touched = c.self.inside.touched in
-    let range = c.keeps_invariant.ensures.in_range in
-    let once = c.keeps_invariant.ensures.each_once in
-    subst (λ (t : LiteralList). IsClauseOver t.variables t.literals) c.self.view_is
-    (valued-over c.self.inside.signs touched.members touched.variables range once)
+pub returns-clause-few : goal.returns-clause-few
+returns-clause-few c =
+    let few = over_few c.self.inside.variables c.self.inside.literals.items c.self.invariant.over in
+    omega (arith, few, c.len.ensures, ap (λ (t : LiteralList). t.variables) c.self.view_is)
 
 pub returns-clause-stated : goal.returns-clause-stated
 returns-clause-stated c =
-    let touched = c.self.inside.touched in
-    let range = c.keeps_invariant.ensures.in_range in
-    let once = c.keeps_invariant.ensures.each_once in
-    let few = few_from_one touched.members MAX_VARIABLES once (λ k d within. ((range k d within).0, c.self.invariant.stated k d within)) in
-    subst (λ n. n ≤ MAX_VARIABLES) (sym c.len.ensures.value) few
+    let over = c.self.invariant.over in
+    let few = over_few MAX_VARIABLES c.self.inside.literals.items record {
+      in_range = λ k d within. ((over.in_range k d within).0, c.self.invariant.stated k d within);
+      distinct = over.distinct;
+    } in
+    omega (arith, few, c.len.ensures)
