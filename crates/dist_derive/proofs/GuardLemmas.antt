@@ -47,7 +47,7 @@ pub all_guarded_open : (watches : WatchLists) (clauses : List (List Literal)) (l
 all_guarded_open watches clauses last trues consistent watched guarded =
     All-from_numbers (λ c. HasOutcome trues c Open) clauses last (λ number from to. ⊎_elim
     (λ h. true_one_open trues (clause_at clauses number) consistent h)
-    (λ (f : IsFree watches trues number). let w = watched number from f.apart in
+    (λ (f : IsFree watches trues number). let w = watched.watched number from f.apart in
     two_free_open trues (clause_at clauses number) (pair_of watches number).0 (pair_of watches number).1 f.apart w.first w.second f.first_free f.second_free)
     (guarded number from to))
 

@@ -13,20 +13,14 @@ use Rattle.dist_derive.specs.New.{LeavesFirstUnset}
 use Rattle.dist_derive.specs.TrueLiterals.{LiteralList}
 use Rattle.dist_derive.specs.SweepPrivate.{IsForced, IsRefuted}
 use Rattle.dist_derive.specs.AssumePrivate.{AssumesAll}
-use Rattle.dist_derive.specs.Watches.{WatchLists, pair_of, AreWatchesOf, IsWatched, IsFree, IsGuarded, StayFree}
+use Rattle.dist_derive.specs.Watches.{WatchLists, entries_of, pair_of, AreWatchesOf, IsWatched, IsFree, IsGuarded, StayFree}
 use Rattle.dist_derive.specs.WatchesPrivate.{AllGuarded, Advances, Stands}
 use Rattle.dist_derive.specs.WatchesPrivate.{WatchingState, IsGrounded, IsStanding, IsStandingIfMade, StandsFor, Tries}
 use Rattle.dist_derive.proofs.AssumeLemmas.{ContainsAll-first, ContainsAll-itself, ContainsAll-second, ContainsAll-then, take-all, front-then}
 use Rattle.dist_derive.proofs.BeginLemmas.{Begins, All-fewer, begins_unset, unset_begins}
 use Rattle.dist_derive.proofs.GuardLemmas.{true_one_more, ContainsAll-take, take-front}
-use Rattle.dist_derive.proofs.WatchLemmas.{nowhere}
 
 -- ---- no clause is taken in
-
-none_watched : (w : WatchLists) (clauses : List (List Literal)) → w.pairs ≡ [] → AreWatchesOf w clauses
-none_watched w clauses none number from apart =
-    let same : pair_of w number ≡ nowhere = ap (λ ps. get_or ps (number - 1) nowhere) none in
-    absurd (apart (ap (λ (p : Literal × Literal). p.0) same ∙ sym (ap (λ (p : Literal × Literal). p.1) same)))
 
 stands_nothing : (w : WatchLists) (clauses : List (List Literal)) (assumptions trues : List Literal) (taken : ℕ) → assumptions ≡ [] → trues ≡ []
     → taken ≡ 0 → Stands w clauses assumptions trues taken
@@ -37,16 +31,16 @@ stands_nothing w clauses assumptions trues taken no_assumption no_literal none =
   guarded = λ number from to. absurd (omega (arith, from, to, none));
 }
 
-pub standing_made : (clauses : List (List Literal)) (variables : ℕ) (watching : WatchingState) → watching.watches.pairs ≡ []
+pub standing_made : (clauses : List (List Literal)) (variables : ℕ) (watching : WatchingState) → AreWatchesOf watching.watches clauses
     → watching.literals ≡ record { variables = variables; literals = [] } → watching.ground ≡ 0 → watching.grounded ≡ 0 → watching.assumptions ≡ []
     → watching.taken ≡ 0 → IsStanding clauses variables watching
-standing_made clauses variables watching pairs literals ground grounded assumptions taken =
+standing_made clauses variables watching watched literals ground grounded assumptions taken =
     let no_literal : watching.literals.literals ≡ [] = ap (λ (s : LiteralList). s.literals) literals in
     record {
       is_grounded = record {
         same_variables = ap (λ (s : LiteralList). s.variables) literals;
         within = omega (arith, ground);
-        watched = none_watched watching.watches clauses pairs;
+        watched = watched;
         alone = stands_nothing watching.watches clauses [] (take watching.ground watching.literals.literals) watching.grounded refl
             (ap (take watching.ground) no_literal ∙ take-nil watching.ground) grounded;
       };
@@ -110,14 +104,24 @@ module _ (clauses : List (List Literal)) (clause : List Literal) where
   same_clause : (number : ℕ) → 1 ≤ number → number ≤ length clauses → clause_at (clauses ++ clause ∷ []) number ≡ clause_at clauses number
   same_clause number from to = get_or_append_left clauses (clause ∷ []) [] (number - 1) (omega arith)
 
-  watches_appended : (w : WatchLists) → AreWatchesOf w clauses → AreWatchesOf w (clauses ++ clause ∷ [])
-  watches_appended w h number from apart = elim (cases_lt (length clauses) number) [
-    | inl behind ↦
-        let nothing : clause_at clauses number ≡ [] = get_or_past clauses (number - 1) [] (omega arith) in
-        let none = subst (λ c. Contains c (pair_of w number).0) nothing (h number from apart).first in
+  -- a clause that has a literal is the same in the longer log
+  same_nonempty : (number : ℕ) (l : Literal) → Contains (clause_at clauses number) l → clause_at (clauses ++ clause ∷ []) number ≡ clause_at clauses number
+  same_nonempty number l has = elim (cases_lt (number - 1) (length clauses)) [
+    | inl within ↦ get_or_append_left clauses (clause ∷ []) [] (number - 1) within
+    | inr past ↦
+        let none = subst (λ c. Contains c l) (get_or_past clauses (number - 1) [] past) has in
         absurd (omega (arith, none.1))
-    | inr within ↦ subst (λ c. IsWatched w c number) (sym (same_clause number from within)) (h number from apart)
   ]
+
+  watches_appended : (w : WatchLists) → AreWatchesOf w clauses → AreWatchesOf w (clauses ++ clause ∷ [])
+  watches_appended w h = record {
+    watched = λ number from apart.
+        let watched = h.watched number from apart in
+        subst (λ c. IsWatched w c number) (sym (same_nonempty number (pair_of w number).0 watched.first)) watched;
+    blocked = λ l k d within.
+        let has = h.blocked l k d within in
+        subst (λ c. Contains c (get_or (entries_of w l) k d).1) (sym (same_nonempty (get_or (entries_of w l) k d).0 (get_or (entries_of w l) k d).1 has)) has;
+  }
 
   stands_appended : (w : WatchLists) (assumptions trues : List Literal) (taken : ℕ) → Stands w clauses assumptions trues taken
       → Stands w (clauses ++ clause ∷ []) assumptions trues taken

@@ -73,7 +73,7 @@ module _ (clauses : List (List Literal)) (last done : ℕ) (t l : Literal) (oppo
           → IsGuarded w s.literals (take (done + 1) s.literals) (clause_at clauses number) number
           ⊎ (IsGuarded w s.literals (take done s.literals) (clause_at clauses number) number × Pends w l 0 number)
       by_pair number from f =
-          let in_lists = watched number from f.apart in
+          let in_lists = watched.watched number from f.apart in
           elim (same_or_not (pair_of w number).0 l) [
             | inl same ↦ inr (inr f, pends number (pair_of w number).0 same in_lists.first_listed)
             | inr first ↦ elim (same_or_not (pair_of w number).1 l) [
@@ -158,7 +158,7 @@ module _ (clauses : List (List Literal)) (last number : ℕ) (l : Literal) where
 pub other_in : (w : WatchLists) (clauses : List (List Literal)) (number : ℕ) (l other : Literal) → 1 ≤ number → HasOther (pair_of w number) l other
     → AreWatchesOf w clauses → Contains (clause_at clauses number) other
 other_in w clauses number l other from has h =
-    let watched = h number from has.0 in
+    let watched = h.watched number from has.0 in
     ⊎_elim (λ e. subst (λ m. Contains (clause_at clauses number) m) e.1 watched.second)
     (λ e. subst (λ m. Contains (clause_at clauses number) m) e.1 watched.first)
     has.1

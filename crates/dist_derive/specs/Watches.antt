@@ -1,5 +1,5 @@
 -- Clauses that are found by two of their literals.
-use Rattle.std.specs.Prelude.{◌≡◌, ◌≢◌, ◌⊎◌, ℕ, false, ◌-◌, ◌≤◌, ◌<◌, List, [], length, Contains}
+use Rattle.std.specs.Prelude.{◌≡◌, ◌≢◌, ◌⊎◌, ℕ, false, ◌-◌, ◌≤◌, ◌<◌, List, [], length, map, All, Contains}
 use Rattle.std.specs.Prelude.{slice_index, slice_index_or}
 use Rattle.dist_clause.specs.Formula.{Literal, literal}
 use Rattle.dist_clause.specs.ClauseList.{clause_at}
@@ -7,13 +7,23 @@ use Rattle.dist_derive.specs.ContainmentPrivate.{ContainsAll}
 use Rattle.dist_derive.specs.Propagation.{IsFalse}
 use Rattle.dist_derive.specs.OccurrencesPrivate.{code_of}
 
--- for each literal's code numbers of clauses, and for each number, from 1 on, two literals
+-- for each literal's code numbers of clauses, each with its blocker, and for each number, from 1 on, two literals
 pub record WatchLists : Type 0 where
-  pub lists : List (List ℕ)
+  pub lists : List (List (ℕ × Literal))
   pub pairs : List (Literal × Literal)
 
+abbrev pub no_entry : ℕ × Literal
+no_entry = (0, literal 0 false)
+
+abbrev pub entries_of : WatchLists → Literal → List (ℕ × Literal)
+entries_of watches l = slice_index_or watches.lists (code_of l) []
+
+-- the numbers without their blockers
+abbrev pub numbers_in : List (ℕ × Literal) → List ℕ
+numbers_in entries = map (λ entry. entry.0) entries
+
 abbrev pub list_of : WatchLists → Literal → List ℕ
-list_of watches l = slice_index_or watches.lists (code_of l) []
+list_of watches l = numbers_in (entries_of watches l)
 
 -- two equal literals, where a clause is not watched
 abbrev pub pair_in : List (Literal × Literal) → ℕ → Literal × Literal
@@ -41,20 +51,28 @@ pub record IsWatched (watches : WatchLists) (clause : List Literal) (number : �
   pub first_listed : Contains (list_of watches (pair_of watches number).0) number
   pub second_listed : Contains (list_of watches (pair_of watches number).1) number
 
+-- the blocker is a literal of the clause: while it is true, the clause need not be read
+abbrev pub Blocks : List (List Literal) → ℕ × Literal → Type 0
+Blocks clauses entry = Contains (clause_at clauses entry.0) entry.1
+
 -- each number with two different literals is that of a clause that they watch; lists may have more numbers
-abbrev pub AreWatchesOf : WatchLists → List (List Literal) → Type 0
-AreWatchesOf watches clauses = (number : ℕ) → 1 ≤ number → (pair_of watches number).0 ≢ (pair_of watches number).1
-    → IsWatched watches (clause_at clauses number) number
+pub record AreWatchesOf (watches : WatchLists) (clauses : List (List Literal)) : Type 0 where
+  pub watched : (number : ℕ) → 1 ≤ number → (pair_of watches number).0 ≢ (pair_of watches number).1
+      → IsWatched watches (clause_at clauses number) number
+  pub blocked : (l : Literal) → All (Blocks clauses) (entries_of watches l)
 
 -- a number has the same two literals, or two equal ones before and now
 abbrev pub IsPairKept : List (Literal × Literal) → List (Literal × Literal) → ℕ → Type 0
 IsPairKept old new number = let was = pair_in old number in let is = pair_in new number in
     (is ≡ was) ⊎ ((was.0 ≡ was.1) × (is.0 ≡ is.1))
 
--- a number has come into a literal's list, or was there
-pub record Lists (old new : WatchLists) (l : Literal) (number : ℕ) : Type 0 where
+-- a number has come into a literal's list with its blocker, or was there
+pub record Lists (old new : WatchLists) (l : Literal) (number : ℕ) (blocker : Literal) : Type 0 where
   pub same_pairs : new.pairs ≡ old.pairs
   pub listed : (clauses : List (List Literal)) → AreWatchesOf old clauses → Contains (list_of new l) number
+  pub blocked : (clauses : List (List Literal)) → Blocks clauses (number, blocker)
+      → ((m : Literal) → All (Blocks clauses) (entries_of old m)) → (m : Literal)
+      → All (Blocks clauses) (entries_of new m)
   pub kept : (m : Literal) (n : ℕ) → Contains (list_of old m) n → Contains (list_of new m) n
   pub other_lists : (m : Literal) → m ≢ l → list_of new m ≡ list_of old m
 

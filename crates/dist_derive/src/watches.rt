@@ -4,60 +4,71 @@
 //! clause when one of its two becomes false, and another literal takes that one's place then. Literals that become unset
 //! again leave all that as it is.
 
-ghost use Rattle.std.specs.Prelude.{◌≡◌, ◌≢◌, ◌+◌, ◌<◌, ◌≤◌, ◌^◌, ℕ, false, List, [], ◌∷◌, ◌++◌, length, IfOk, IfSome, IfNone, IsTrue, OnOk, Contains, slice_index};
+ghost use Rattle.std.specs.Prelude.{◌≡◌, ◌≢◌, ◌+◌, ◌<◌, ◌≤◌, ◌^◌, ℕ, false, List, [], ◌∷◌, ◌++◌, length, IfOk, IfSome, IfNone, IsTrue, OnOk, Contains, slice_index, slice_index_or};
 ghost use Rattle.std.specs.List.{swap_remove};
 ghost use Rattle.dist_clause.specs.Formula.{Literal};
 ghost use Rattle.dist_clause.specs.ClauseList.{clause_at};
-ghost use Rattle.dist_derive.specs.Watches.{list_of, pair_of, AreWatchesOf, IsPairKept, Lists, HasOther, HasNot, Pends};
+ghost use Rattle.dist_derive.specs.Watches.{no_entry, numbers_in, entries_of, list_of, pair_of, AreWatchesOf, IsPairKept, Lists, HasOther, HasNot, Pends};
 
 use crate::occurrences::code_of;
 use dist_clause::Lit;
 use std::alloc::{AllocError, Global};
 use std::marker::Model;
 
-/// Numbers of clauses.
+/// Numbers of clauses, each with a literal of its clause, the blocker: while that is true, the clause need not be read.
 #[derive(Drop)]
-struct Numbers {
-    numbers: Vec<u32>,
+struct Entries {
+    entries: Vec<(u32, Lit)>,
 }
 
-impl Model for Numbers {
+impl Model for Entries {
     ghost use Rattle.std.specs.Prelude.{ℕ, List};
+    ghost use Rattle.dist_clause.specs.Formula.{Literal};
 
-    ghost Value = { List ℕ };
+    ghost Value = { List (ℕ × Literal) };
 
-    ghost view = { λ a. a.numbers.items };
+    ghost view = { λ a. a.entries.items };
 }
 
-impl Numbers {
-    fn new(alloc: Global) -> Numbers
+impl Entries {
+    fn new(alloc: Global) -> Entries
         ensures { result ≡ [] }
     {
-        Numbers {
-            numbers: Vec::new(alloc),
+        Entries {
+            entries: Vec::new(alloc),
         }
     }
 
-    fn add(&mut self, number: u32) -> Result<(), AllocError>
-        ensures { OnOk result (self.new ≡ self.old ++ number ∷ []) }
+    fn add(&mut self, number: u32, blocker: Lit) -> Result<(), AllocError>
+        ensures { OnOk result (self.new ≡ self.old ++ (number, blocker) ∷ []) }
     {
-        self.numbers.push(number)?;
+        self.entries.push((number, blocker))?;
         Ok(())
     }
 
     fn get(&self, place: usize) -> Option<u32>
-        ensures some { IfSome result (λ number. (place < length self.now) × (number ≡ slice_index self.now place)) }
-        ensures none { IfNone result (length self.now ≤ place) }
+        ensures some { IfSome result (λ number. (place < length (numbers_in self.now)) × (number ≡ slice_index (numbers_in self.now) place)) }
+        ensures none { IfNone result (length (numbers_in self.now) ≤ place) }
     {
-        self.numbers.get(place).copied()
+        match self.entries.get(place) {
+            Some(entry) => Some(entry.0),
+            None => None,
+        }
+    }
+
+    fn blocker(&self, place: usize) -> Lit
+        requires { place < length self.now }
+        ensures { result ≡ (slice_index_or self.now place no_entry).1 }
+    {
+        self.entries[place].1
     }
 
     /// The last one takes the place of the one that is taken out.
     fn take_out(&mut self, place: usize)
         requires { place < length self.old }
-        ensures { self.new ≡ swap_remove self.old place 0 }
+        ensures { self.new ≡ swap_remove self.old place no_entry }
     {
-        let _ = self.numbers.swap_remove(place);
+        let _ = self.entries.swap_remove(place);
     }
 }
 
@@ -65,7 +76,7 @@ impl Numbers {
 #[derive(Drop)]
 pub struct Watches {
     /// By the code of the literal. A number may stand in a list though its clause is found by other literals now.
-    lists: Vec<Numbers>,
+    lists: Vec<Entries>,
     /// By the number of the clause, from 1 on. Two equal literals: the clause isn't watched.
     pairs: Vec<(Lit, Lit)>,
     /// By the number too: where a literal that is not false was found last in the clause.
@@ -94,11 +105,11 @@ impl Watches {
 
     /// An empty list for each literal.
     pub fn make(alloc: Global, variables: u32) -> Result<Watches, AllocError>
-        ensures { IfOk result (λ watches. watches.pairs ≡ []) }
+        ensures { IfOk result (λ watches. (clauses : List (List Literal)) → AreWatchesOf watches clauses) }
     {
         let mut lists = Vec::new(alloc);
         for _code in 0..2 * variables as usize + 2 {
-            lists.push(Numbers::new(alloc))?;
+            lists.push(Entries::new(alloc))?;
         }
         Ok(Watches {
             lists,
@@ -112,7 +123,7 @@ impl Watches {
         ensures { result ≡ length (list_of self.now literal) }
     {
         match self.lists.get(code_of(literal) as usize) {
-            Some(list) => list.numbers.len(),
+            Some(list) => list.entries.len(),
             None => 0,
         }
     }
@@ -134,6 +145,18 @@ impl Watches {
             Some(list) => list.get(place),
             None => None,
         }
+    }
+
+    /// A literal of the clause whose number stands at a place in a literal's list.
+    pub fn blocker(&self, literal: Lit, place: usize) -> Lit
+        requires { place < length (list_of self.now literal) }
+        ensures value { (clauses : List (List Literal)) → AreWatchesOf self.now clauses
+            → Contains (clause_at clauses (slice_index (list_of self.now literal) place)) result }
+        ensures short { length (list_of self.now literal) < 2 ^ 64 }
+    {
+        self.list_is_short(literal);
+        let code = code_of(literal) as usize;
+        self.lists[code].blocker(place)
     }
 
     /// The other one of a clause's two literals, where one is this.
@@ -169,34 +192,49 @@ impl Watches {
         ensures watches { OnOk result ((clauses : List (List Literal)) → Contains (clause_at clauses number) one
             → Contains (clause_at clauses number) other → AreWatchesOf self.old clauses → AreWatchesOf self.new clauses) }
     {
-        self.list(one, number)?;
-        self.list(other, number)?;
+        self.list(one, number, other)?;
+        self.list(other, number, one)?;
+        self.set_pair(number, one, other)
+    }
+
+    /// Finds a clause by another literal from now on, in the place of the one that was found with this.
+    pub fn move_to(&mut self, number: u32, one: Lit, other: Lit) -> Result<(), AllocError>
+        requires from_one { 1 ≤ number }
+        requires apart { one ≢ other }
+        requires found { (l : Literal) × HasOther (pair_of self.old number) one l }
+        ensures pair { OnOk result (pair_of self.new number ≡ (one, other)) }
+        ensures other_pairs { OnOk result ((n : ℕ) → 1 ≤ n → n ≢ number → IsPairKept self.old.pairs self.new.pairs n) }
+        ensures other_lists { OnOk result ((l : Literal) → l ≢ other → list_of self.new l ≡ list_of self.old l) }
+        ensures watches { OnOk result ((clauses : List (List Literal)) → Contains (clause_at clauses number) one
+            → Contains (clause_at clauses number) other → AreWatchesOf self.old clauses → AreWatchesOf self.new clauses) }
+    {
+        self.put(other, number, one)?;
         self.set_pair(number, one, other)
     }
 
     /// Puts a clause into a literal's list, unless it is found by this literal.
-    fn list(&mut self, literal: Lit, number: u32) -> Result<(), AllocError>
+    fn list(&mut self, literal: Lit, number: u32, blocker: Lit) -> Result<(), AllocError>
         requires from_one { 1 ≤ number }
-        ensures { OnOk result (Lists self.old self.new literal number) }
+        ensures { OnOk result (Lists self.old self.new literal number blocker) }
     {
         if self.is_by(number, literal) {
             Ok(())
         } else {
-            self.put(literal, number)
+            self.put(literal, number, blocker)
         }
     }
 
     /// Puts a clause into a literal's list. Where there is none, it is want of memory too.
-    fn put(&mut self, literal: Lit, number: u32) -> Result<(), AllocError>
+    fn put(&mut self, literal: Lit, number: u32, blocker: Lit) -> Result<(), AllocError>
         ensures same_pairs { OnOk result (self.new.pairs ≡ self.old.pairs) }
-        ensures other_lists { OnOk result ((l : Literal) → l ≢ literal → list_of self.new l ≡ list_of self.old l) }
-        ensures list { OnOk result (list_of self.new literal ≡ list_of self.old literal ++ number ∷ []) }
+        ensures other_lists { OnOk result ((l : Literal) → l ≢ literal → entries_of self.new l ≡ entries_of self.old l) }
+        ensures list { OnOk result (entries_of self.new literal ≡ entries_of self.old literal ++ (number, blocker) ∷ []) }
     {
         let code = code_of(literal) as usize;
         if code >= self.lists.len() {
             return Err(AllocError);
         }
-        self.lists[code].add(number)
+        self.lists[code].add(number, blocker)
     }
 
     /// Where to begin to look for a literal of a clause that is not false: where one was found last. Of long clauses the literals
@@ -263,8 +301,8 @@ impl Watches {
     fn take_out(&mut self, literal: Lit, place: usize)
         requires within { place < length (list_of self.old literal) }
         ensures same_pairs { self.new.pairs ≡ self.old.pairs }
-        ensures other_lists { (l : Literal) → l ≢ literal → list_of self.new l ≡ list_of self.old l }
-        ensures list { list_of self.new literal ≡ swap_remove (list_of self.old literal) place 0 }
+        ensures other_lists { (l : Literal) → l ≢ literal → entries_of self.new l ≡ entries_of self.old l }
+        ensures list { entries_of self.new literal ≡ swap_remove (entries_of self.old literal) place no_entry }
     {
         let code = code_of(literal) as usize;
         self.lists[code].take_out(place);

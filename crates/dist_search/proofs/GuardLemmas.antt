@@ -180,17 +180,17 @@ module _ (clauses : List (List Literal)) (cone : List ℕ) where
 
   -- ---- looks at a clause
 
-  module _ (number : ℕ) (is : IsNumberOf clauses number) (l : Literal) where
-    -- one of its literals is true
-    pub looks_true : (w : WatchLists) (s : TrailState) → AreWatchesOf w clauses → length s.reasons ≡ length s.literals
-        → HasTrueOne s.literals (clause_at clauses number) → Looks clauses cone number l w w s s true
-    looks_true w s watched each one = record {
-      goes_on = goes_none w s watched each;
-      guarded = λ _ _ _ _. inl one;
-      conflict = λ e. absurd (true≢false e);
-      same_list = λ _. refl;
-    }
+  -- one of its literals is true
+  pub looks_true : (number : ℕ) (l : Literal) (w : WatchLists) (s : TrailState) → AreWatchesOf w clauses → length s.reasons ≡ length s.literals
+      → HasTrueOne s.literals (clause_at clauses number) → Looks clauses cone number l w w s s true
+  looks_true number l w s watched each one = record {
+    goes_on = goes_none w s watched each;
+    guarded = λ _ _ _ _. inl one;
+    conflict = λ e. absurd (true≢false e);
+    same_list = λ _. refl;
+  }
 
+  module _ (number : ℕ) (is : IsNumberOf clauses number) (l : Literal) where
     pub looks_false : (w : WatchLists) (s : TrailState) → AreWatchesOf w clauses → length s.reasons ≡ length s.literals
         → AllFalse s.literals (clause_at clauses number) → Looks clauses cone number l w w s s false
     looks_false w s watched each all = record {

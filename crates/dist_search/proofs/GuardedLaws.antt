@@ -48,7 +48,7 @@ module _ (by_true : TrueLiteralSettles) (by_two : TwoLiteralsSettle) where
   guarded_settles n watches clauses trues number are consistent over from guarded = ⊎_elim
       (λ t. by_true trues (clause_at clauses number) t.0 consistent t.1 t.2)
       (λ f.
-      let w = are number from f.apart in
+      let w = are.watched number from f.apart in
       let pair = pair_of watches number in
       by_two trues (clause_at clauses number) pair.0 pair.1 w.first w.second
       (apart_in (clause_at clauses number) pair.0 pair.1 over.distinct w.first w.second f.apart) f.first_free f.second_free)

@@ -10,7 +10,7 @@ use Rattle.dist_clause.specs.ClauseList.{clause_at}
 use Rattle.dist_derive.specs.ContainmentPrivate.{ContainsAll}
 use Rattle.dist_derive.specs.Propagation.{IsFalse, IsUnit}
 use Rattle.dist_derive.specs.Follows.{IsNumberOf}
-use Rattle.dist_derive.specs.Watches.{WatchLists, pair_of, AreWatchesOf, IsWatched, IsPairKept, IsGuarded, IsFree, HasTrueOne}
+use Rattle.dist_derive.specs.Watches.{WatchLists, entries_of, pair_of, AreWatchesOf, IsWatched, IsPairKept, IsGuarded, IsFree, HasTrueOne}
 use Rattle.dist_search.proofs.ContainmentLemmas.{ContainsAll-itself, ContainsAll-push}
 use Rattle.dist_search.proofs.GuardLemmas.{true_one_more, kept_free}
 use Rattle.dist_search.proofs.GuardLiterals.{all_of_first}
@@ -32,9 +32,6 @@ module _ (clauses : List (List Literal)) where
   clause_earlier : (number : ℕ) → 1 ≤ number → number ≤ length clauses - 1 → clause_at earlier number ≡ clause_at clauses number
   clause_earlier number from to = get_or-take (length clauses - 1) clauses (number - 1) [] (omega (arith, from, to))
 
-  clause_above : (number : ℕ) → length clauses - 1 < number → clause_at earlier number ≡ []
-  clause_above number above = get_or_past earlier (number - 1) [] (omega (arith, above, earlier_count))
-
   number_later : (number : ℕ) → IsNumberOf earlier number → IsNumberOf clauses number
   number_later number h = (h.0, omega (arith, h.1, earlier_count))
 
@@ -42,15 +39,23 @@ module _ (clauses : List (List Literal)) where
   clause_later number h = clause_earlier number h.0 (omega (arith, h.1, earlier_count))
 
   watches_later : (w : WatchLists) → AreWatchesOf w earlier → AreWatchesOf w clauses
-  watches_later w h number from apart = elim (cases_lt (length clauses - 1) number) [
-    | inl above ↦ none number above (h number from apart)
-    | inr to ↦ subst (λ clause. IsWatched w clause number) (clause_earlier number from to) (h number from apart)
-  ] where
-    none : (number : ℕ) → length clauses - 1 < number → IsWatched w (clause_at earlier number) number → IsWatched w (clause_at clauses number) number
-    none number above watched =
-        let nowhere : Contains [] (pair_of w number).0 =
-        subst (λ clause. Contains clause (pair_of w number).0) (clause_above number above) watched.first in
-        absurd (omega (arith, nowhere.1))
+  watches_later w h = record {
+    watched = λ number from apart.
+        let watched = h.watched number from apart in
+        subst (λ clause. IsWatched w clause number) (same_nonempty number (pair_of w number).0 watched.first) watched;
+    blocked = λ l k d within.
+        let entry = get_or (entries_of w l) k d in
+        let has = h.blocked l k d within in
+        subst (λ clause. Contains clause entry.1) (same_nonempty entry.0 entry.1 has) has;
+  } where
+    -- a clause that has a literal is the same in the longer log
+    same_nonempty : (number : ℕ) (l : Literal) → Contains (clause_at earlier number) l → clause_at earlier number ≡ clause_at clauses number
+    same_nonempty number l has = elim (cases_lt (number - 1) (length clauses - 1)) [
+      | inl within ↦ get_or-take (length clauses - 1) clauses (number - 1) [] within
+      | inr past ↦
+          let nowhere : Contains [] l = subst (λ clause. Contains clause l) (get_or_past earlier (number - 1) [] (omega (arith, past, earlier_count))) has in
+          absurd (omega (arith, nowhere.1))
+    ]
 
   pub watching_later : (s : SearchState) → IsWatching earlier s → IsWatching clauses s
   watching_later s h = record {

@@ -80,7 +80,7 @@ module _ (clauses : List (List Literal)) (cone : List ℕ) (done : ℕ) (t l : L
           → IsGuarded w s.literals (take (done + 1) s.literals) (clause_at clauses number) number
           ⊎ (IsGuarded w s.literals (take done s.literals) (clause_at clauses number) number × Pends w l 0 number)
       by_pair number from f =
-          let in_lists = watched number from f.apart in
+          let in_lists = watched.watched number from f.apart in
           elim (same_or_not (pair_of w number).0 l) [
             | inl same ↦ inr (inr f, pends number (pair_of w number).0 same in_lists.first_listed)
             | inr first ↦ elim (same_or_not (pair_of w number).1 l) [
@@ -161,6 +161,13 @@ module _ (clauses : List (List Literal)) (cone : List ℕ) (done : ℕ) (t l : L
         unmoved : (number : ℕ) → Pends w l place number → Pends v l place number
         unmoved number p = subst (λ ns. (k : ℕ) × (place ≤ k) × (k < length ns) × (get_or ns k 0 ≡ number)) (sym (looks.same_list is_false)) p
 
+-- what stands behind a place stands behind the next one, but for the number at it
+pub pends_behind : (w : WatchLists) (l : Literal) (place here : ℕ) → here ≡ get_or (list_of w l) place 0 → (n : ℕ) → n ≢ here → Pends w l place n
+    → Pends w l (place + 1) n
+pends_behind w l place here there n other p =
+    let later : p.0 ≢ place = λ e. other (sym p.3 ∙ (ap (λ k. get_or (list_of w l) k 0) e ∙ sym there)) in
+    (p.0, omega (arith, p.1, later), p.2, p.3)
+
 -- a clause that is not read: no literal of it that lies in the cone is found here
 pub passes_over : (clauses : List (List Literal)) (cone : List ℕ) (number : ℕ) (l : Literal) (w : WatchLists) (s : TrailState)
     → AreWatchesOf w clauses → length s.reasons ≡ length s.literals
@@ -177,7 +184,7 @@ passes_over clauses cone number l w s watched each not = record {
 pub other_in : (w : WatchLists) (clauses : List (List Literal)) (number : ℕ) (l other : Literal) → 1 ≤ number → HasOther (pair_of w number) l other
     → AreWatchesOf w clauses → Contains (clause_at clauses number) other
 other_in w clauses number l other from has h =
-    let watched = h number from has.0 in
+    let watched = h.watched number from has.0 in
     ⊎_elim (λ e. subst (λ m. Contains (clause_at clauses number) m) e.1 watched.second)
     (λ e. subst (λ m. Contains (clause_at clauses number) m) e.1 watched.first)
     has.1

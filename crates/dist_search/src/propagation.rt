@@ -4,12 +4,12 @@
 //! clause that gives a literal outside the cone is left alone: such a literal has no value in this question, and a clause that
 //! reaches there has a negative literal outside, which no model has to make false.
 
-ghost use Rattle.std.specs.Prelude.{◌≡◌, ◌≤◌, length, take, Contains, IfOk, IfSome, IfNone};
+ghost use Rattle.std.specs.Prelude.{◌≡◌, ◌<◌, ◌≤◌, ◌^◌, length, take, slice_index, Contains, IfOk, IfSome, IfNone, IsTrue};
 ghost use Rattle.dist_clause.specs.ClauseList.{clause_at};
 ghost use Rattle.dist_derive.specs.Propagation.{AllFalse};
 ghost use Rattle.dist_derive.specs.Follows.{IsNumberOf};
 ghost use Rattle.dist_clause.specs.Formula.{Literal};
-ghost use Rattle.dist_derive.specs.Watches.{AreWatchesOf, HasOther, pair_of};
+ghost use Rattle.dist_derive.specs.Watches.{AreWatchesOf, HasOther, HasTrueOne, list_of, pair_of};
 ghost use Rattle.dist_search.specs.Guard.{AreGuarded, Advances};
 ghost use Rattle.dist_search.specs.GuardPrivate.{IsTaking, GoesOn, IsConflict, Looks};
 
@@ -71,12 +71,38 @@ fn take_literal(
     let literal = taken.negated();
     let mut place = 0;
     while let Some(number) = watches.number_at(literal, place) {
+        if is_blocked(log, watches, trail, literal, place, number) {
+            trail.keeps_invariant();
+            place += 1;
+            continue;
+        }
         if !look_again(log, cone, watches, trail, number, literal)? {
             return Ok(Some(number));
         }
         place = watches.pass(literal, place, number);
     }
     Ok(None)
+}
+
+/// Whether a clause, found at a place in a literal's list, has a blocker that is true: then it is not read.
+fn is_blocked(
+    log: &Log,
+    watches: &Watches,
+    trail: &Trail,
+    literal: Lit,
+    place: usize,
+    number: u32,
+) -> bool
+    requires same_variables { trail.now.variables ≡ log.now.variables }
+    requires watches { AreWatchesOf watches.now log.now.clauses }
+    requires within { place < length (list_of watches.now literal) }
+    requires number { number ≡ slice_index (list_of watches.now literal) place }
+    ensures blocked { IsTrue result → HasTrueOne trail.now.literals (clause_at log.now.clauses number) }
+    ensures short { length (list_of watches.now literal) < 2 ^ 64 }
+{
+    log.keeps_invariant();
+    let blocker = watches.blocker(literal, place);
+    trail.trues().is_true(blocker)
 }
 
 /// Looks at a clause where it is found by a literal that is false now; answers whether it is not false. It is not read where its
@@ -127,6 +153,7 @@ fn look(
     requires to_last { number ≤ length log.now.clauses }
     requires member { Contains (clause_at log.now.clauses number) first }
     requires within_cone { Contains cone.now.members first.variable }
+    requires found { (l : Literal) × HasOther (pair_of watches.old number) l first }
     ensures looks { (l : Literal) → HasOther (pair_of watches.old number) l first → IfOk result (λ fine. Looks log.now.clauses
         cone.now.members number l watches.old watches.new trail.old trail.new fine) }
     ensures same_variables { trail.new.variables ≡ trail.old.variables }
@@ -141,7 +168,7 @@ fn look(
     let start = watches.place(number);
     if let Some(found) = trail.trues().free_from(clause, first, start) {
         watches.note_place(number, found.0);
-        watches.watch(number, first, found.1)?;
+        watches.move_to(number, first, found.1)?;
         return Ok(true);
     }
     if let Truth::False = truth {

@@ -21,7 +21,7 @@ status-truth-requires c =
     subst (λ k. c.args.first.variable ≤ k) (sym (ap (λ (t : LiteralList). t.variables) c.trues.ensures ∙ c.requires.same_variables)) range.1
 
 pub returns-in-True-clause-looks : goal.returns-in-True-clause-looks
-returns-in-True-clause-looks c = λ l _. looks_true c.args.log.now.clauses c.args.cone.now.members c.args.number (c.requires.from_one, c.requires.to_last) l
+returns-in-True-clause-looks c = λ l _. looks_true c.args.log.now.clauses c.args.cone.now.members c.args.number l
     c.args.watches.now c.args.trail.now c.requires.watches c.keeps_invariant-2.ensures.ordered.reasons (
       c.args.first,
       c.requires.member,
@@ -35,7 +35,7 @@ returns-in-Some-clause-looks c = λ l was.
     let cone = c.args.cone.now.members in
     let number = c.args.number in
     let u : WatchLists = c.note_place.new.self in
-    let v = c.watch.new.self in
+    let v = c.move_to.new.self in
     let s = c.args.trail.now in
     let first = c.args.first in
     let other = c.in-Some.found.1 in
@@ -45,13 +45,13 @@ returns-in-Some-clause-looks c = λ l was.
       kept = first;
       taken = other;
       was = subst (λ (w : WatchLists). HasOther (pair_of w number) l first) (sym c.note_place.ensures) was;
-      is = c.in_ok-watch.ensures.pair;
+      is = c.in_ok-move_to.ensures.pair;
       apart = c.in-Some.ensures.some.1;
       free = subst (λ (t : LiteralList). ¬ IsFalse t.literals other) c.trues-2.ensures c.in-Some.ensures.some.2;
     })
-    (λ n from apart seen f. kept_free u v n (c.in_ok-watch.ensures.other_pairs n from apart) seen f)
-    c.in_ok-watch.ensures.other_lists
-    (c.in_ok-watch.ensures.watches clauses c.requires.member
+    (λ n from apart seen f. kept_free u v n (c.in_ok-move_to.ensures.other_pairs n from apart) seen f)
+    (λ m _ not_taken. c.in_ok-move_to.ensures.other_lists m not_taken)
+    (c.in_ok-move_to.ensures.watches clauses c.requires.member
     (subst (λ clause. Contains clause other) c.clause-clause.ensures.value c.in-Some.ensures.some.0)
     (subst (λ (w : WatchLists). AreWatchesOf w clauses) (sym c.note_place.ensures) c.requires.watches))
     c.keeps_invariant-2.ensures.ordered.reasons)

@@ -1,10 +1,10 @@
-use Rattle.std.proofs.Common.{◌≡◌, ◌<◌, ◌-◌, Bool, length, ap, sym, subst, ◌∙◌, arith}
+use Rattle.std.proofs.Common.{◌≡◌, ◌<◌, ◌+◌, ◌-◌, Bool, refl, length, ap, sym, subst, ◌∙◌, arith}
 use Rattle.std.specs.List.{slice_index}
 use Rattle.dist_derive.specs.Propagation.{IsFalse}
 use Rattle.dist_derive.specs.Watches.{list_of}
 use Rattle.dist_search.specs.GuardPrivate.{Looks}
-use Rattle.dist_search.proofs.GuardLemmas.{goes_then}
-use Rattle.dist_search.proofs.TakeLemmas.{comes_none, comes_more, comes_end, taken_false, same_item}
+use Rattle.dist_search.proofs.GuardLemmas.{goes_then, looks_true}
+use Rattle.dist_search.proofs.TakeLemmas.{pends_behind, comes_none, comes_more, comes_end, taken_false, same_item}
 use Rattle.dist_search.proofs.propagation.take_literal.Goals as goal
 use Rattle.dist_search.proofs.propagation.take_literal.Goals.{In_ok-look_again}
 
@@ -62,6 +62,28 @@ loop-number-preserved c =
     (subst (λ (fine : Bool). Looks clauses cone c.in-Some.number l w v s b fine) c.if-not-branch.false c.in_ok-look_again.ensures.looks)
     (found_false looked) c.pass-place.ensures.same_pairs
     (c.pass-place.ensures.watches clauses c.in_ok-look_again.ensures.looks.goes_on.advances.watches) c.pass-place.ensures.pending
+
+pub loop-number-preserved-then-is_blocked : goal.loop-number-preserved-then-is_blocked
+loop-number-preserved-then-is_blocked c =
+    let clauses = c.args.log.now.clauses in
+    let cone = c.args.cone.now.members in
+    let done = c.args.trail.now.head - 1 in
+    let t = c.args.taken in
+    let l = c.negated-literal.result in
+    let a = c.args.trail.now in
+    let s = c.loop-number.trail in
+    let w = c.loop-number.watches in
+    let number = c.in-Some.number in
+    let h = c.loop-number.invariant in
+    let front = h.goes_on.advances.front in
+    let placed : done < length a.literals = omega (arith, c.requires.taking.from_one, c.requires.taking.to_end) in
+    comes_more clauses cone done t l c.negated-literal.ensures c.args.watches.now w w w a s s c.loop-number.place (c.loop-number.place + 1) number h
+    (omega (arith, placed, h.goes_on.advances.longer)) (same_item a.literals s.literals done t placed c.requires.taking.there front)
+    c.in-Some.ensures.some.0 c.in-Some.ensures.some.1
+    (looks_true clauses cone number l w s h.goes_on.advances.watches c.keeps_invariant-then-is_blocked.ensures.ordered.reasons
+    (c.if-is_blocked.ensures.blocked refl))
+    (taken_false a.literals s.literals done t l placed c.requires.taking.there c.negated-literal.ensures front) refl h.goes_on.advances.watches
+    (pends_behind w l c.loop-number.place number c.in-Some.ensures.some.1)
 
 pub pass-place-requires-clause-within : goal.pass-place-requires-clause-within
 pass-place-requires-clause-within c = subst (λ ns. c.loop-number.place < length ns)

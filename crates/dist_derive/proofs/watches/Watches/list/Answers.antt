@@ -1,6 +1,6 @@
 use Rattle.std.proofs.Common.{◌≡◌, ◌≢◌, [], ◌∷◌, ◌++◌, Result, Ok, Err, OnOk}
 use Rattle.dist_clause.specs.Formula.{Literal}
-use Rattle.dist_derive.specs.Watches.{Lists, list_of}
+use Rattle.dist_derive.specs.Watches.{Lists, entries_of}
 use Rattle.dist_derive.proofs.WatchLemmas.{listed_more, listed_before}
 use Rattle.dist_derive.proofs.watches.Watches.list.Goals as goal
 
@@ -11,13 +11,14 @@ on_ok_all A B C D (Err e) f a b d = tt
 pub returns-then-is_by : goal.returns-then-is_by
 returns-then-is_by c =
     let other = c.is_by.ensures.yes c.if-is_by.true in
-    listed_before c.args.self.now c.args.literal other.0 c.args.number c.requires.from_one other.1
+    listed_before c.args.self.now c.args.literal other.0 c.args.number c.args.blocker c.requires.from_one other.1
 
 pub returns-else-is_by : goal.returns-else-is_by
 returns-else-is_by c =
     let u = c.args.self.now in
     let v = c.put.new.self in
     let l = c.args.literal in
-    on_ok_all (v.pairs ≡ u.pairs) ((m : Literal) → m ≢ l → list_of v m ≡ list_of u m) (list_of v l ≡ list_of u l ++ c.args.number ∷ [])
-    (Lists u v l c.args.number) c.put.result (λ pairs others list. listed_more u v l c.args.number pairs others list)
+    on_ok_all (v.pairs ≡ u.pairs) ((m : Literal) → m ≢ l → entries_of v m ≡ entries_of u m)
+    (entries_of v l ≡ entries_of u l ++ (c.args.number, c.args.blocker) ∷ [])
+    (Lists u v l c.args.number c.args.blocker) c.put.result (λ pairs others list. listed_more u v l c.args.number c.args.blocker pairs others list)
     c.put.ensures.same_pairs c.put.ensures.other_lists c.put.ensures.list

@@ -1,14 +1,10 @@
-use Rattle.std.proofs.Common.{◌≡◌, ◌≢◌, ℕ, ◌≤◌, List, Result, Ok, Err, OnOk}
+use Rattle.std.proofs.Common.{◌≡◌, ◌≢◌, ℕ, ◌≤◌, List}
 use Rattle.std.specs.List.{Contains}
 use Rattle.dist_clause.specs.Formula.{Literal}
 use Rattle.dist_clause.specs.ClauseList.{clause_at}
 use Rattle.dist_derive.specs.Watches.{pair_of, IsPairKept, AreWatchesOf}
-use Rattle.dist_derive.proofs.WatchLemmas.{watch_watches}
+use Rattle.dist_derive.proofs.WatchLemmas.{on_ok_both, watch_watches}
 use Rattle.dist_derive.proofs.watches.Watches.watch.Goals as goal
-
-on_ok_both : {X E : Type 0} (A B C : Type 0) (r : Result X E) → (A → B → C) → OnOk r A → OnOk r B → OnOk r C
-on_ok_both A B C (Ok x) f a b = f a b
-on_ok_both A B C (Err e) f a b = tt
 
 pub returns-clause-watches : goal.returns-clause-watches
 returns-clause-watches c =
@@ -20,6 +16,6 @@ returns-clause-watches c =
     on_ok_both (pair_of v number ≡ (c.args.one, c.args.other)) ((n : ℕ) → 1 ≤ n → n ≢ number → IsPairKept b.pairs v.pairs n)
     ((clauses : List (List Literal)) → Contains (clause_at clauses number) c.args.one → Contains (clause_at clauses number) c.args.other
     → AreWatchesOf u clauses → AreWatchesOf v clauses) c.set_pair.result
-    (λ pair others. watch_watches u a b v c.args.one c.args.other number c.requires.from_one c.in_ok-list.ensures c.in_ok-list-2.ensures
-    c.set_pair.ensures.same_lists pair others)
+    (λ pair others. λ clauses has_one has_other. watch_watches u a b v c.args.one c.args.other number c.requires.from_one c.args.other c.in_ok-list.ensures
+    c.in_ok-list-2.ensures c.set_pair.ensures.same_lists pair others clauses has_one has_other has_other)
     c.set_pair.ensures.pair c.set_pair.ensures.other_pairs

@@ -14,4 +14,4 @@ returns-clause-standing c = λ clauses.
       assumptions = c.new-2.result.items;
       taken = 0;
     } in
-    standing_made clauses c.args.variables new c.in_ok-watches.ensures c.in_ok-literals.ensures refl refl c.new-2.ensures.items refl
+    standing_made clauses c.args.variables new (c.in_ok-watches.ensures clauses) c.in_ok-literals.ensures refl refl c.new-2.ensures.items refl

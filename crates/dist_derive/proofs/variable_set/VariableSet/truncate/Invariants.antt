@@ -1,8 +1,0 @@
-use Rattle.std.proofs.Common.{◌≡◌, length, take}
-use Rattle.dist_derive.proofs.variable_set.VariableSet.truncate.Given as goal
-
-abbrev pub invariant-loop-self : goal.invariant-loop-self
-invariant-loop-self l = (l.self.variables ≡ l.initial.self.variables) × (take l.len l.self.members ≡ take l.len l.initial.self.members)
-
-abbrev pub decreases-loop-self : goal.decreases-loop-self
-decreases-loop-self l = length l.self.members
